@@ -4,20 +4,20 @@ use Rattle.std.specs.List.{cons_option}
 use Rattle.std.specs.Ordering.{is_eq}
 use Rattle.std.proofs.lemmas.List.Elements.{filter_map-append}
 use Rattle.rtps_ids.specs.declared.identity.Guid.{Guid}
-use Rattle.rtps_discovery.specs.Endpoint.{EndpointValue, endpoint_value}
-use Rattle.rtps_discovery.specs.GuidOrder.{guid_cmp}
+use Rattle.rtps_discovery.specs.Endpoint as endpoint_spec
+use Rattle.rtps_discovery.specs.GuidOrder as guid_order
 use Rattle.rtps_discovery.specs.declared.endpoint.Endpoint.{Endpoint}
-use Rattle.rtps_audit.specs.Placed.{PlacedValue, announced_among, announced_at, announced_of}
+use Rattle.rtps_audit.specs.Placed as placed
 use Rattle.rtps_audit.specs.declared.announced_places.AnnouncedPlace.{AnnouncedPlace}
 use Rattle.rtps_audit.proofs.PlacedLemmas.{is_eq-guid_cmp}
 
-pub none_announced : (datagram at : ℕ) (guid : Guid) (found : Option EndpointValue) → None ≡ found → announced_at datagram at guid found ≡ None
-none_announced datagram at guid found is = ap (announced_at datagram at guid) (sym is)
+pub none_announced : (datagram at : ℕ) (guid : Guid) (found : Option endpoint_spec.EndpointValue) → None ≡ found → placed.announced_at datagram at guid found ≡ None
+none_announced datagram at guid found is = ap (placed.announced_at datagram at guid) (sym is)
 
-pub one_announced : (datagram at : ℕ) (guid : Guid) (endpoint : Endpoint) (found : Option EndpointValue) → Some (endpoint_value endpoint) ≡ found
-    → announced_at datagram at guid found ≡ cond (is_eq (guid_cmp guid endpoint.guid)) (Some (record { datagram = datagram; at = at })) None
+pub one_announced : (datagram at : ℕ) (guid : Guid) (endpoint : Endpoint) (found : Option endpoint_spec.EndpointValue) → Some (endpoint_spec.endpoint_value endpoint) ≡ found
+    → placed.announced_at datagram at guid found ≡ cond (is_eq (guid_order.guid_cmp guid endpoint.guid)) (Some (record { datagram = datagram; at = at })) None
 one_announced datagram at guid endpoint found is =
-    ap (announced_at datagram at guid) (sym is)
+    ap (placed.announced_at datagram at guid) (sym is)
     ∙ ap (λ b. let place : Option AnnouncedPlace = Some (record { datagram = datagram; at = at }) in cond b place None) (sym (is_eq-guid_cmp guid endpoint.guid))
 
 -- one place more, where there is one
@@ -25,6 +25,6 @@ pub place_added : (found : Option AnnouncedPlace) (is_its : Bool) (place : Annou
 place_added found true place is = ap (λ o. cons_option o []) (sym is)
 place_added found false place is = ap (λ o. cons_option o []) (sym is)
 
-pub places_joined : (guid : Guid) (old mid new : List AnnouncedPlace) (xs ys : List PlacedValue) → mid ≡ old ++ announced_among guid xs → new ≡ mid ++ announced_among guid ys → new ≡ old ++ announced_among guid (xs ++ ys)
+pub places_joined : (guid : Guid) (old mid new : List AnnouncedPlace) (xs ys : List placed.PlacedValue) → mid ≡ old ++ placed.announced_among guid xs → new ≡ mid ++ placed.announced_among guid ys → new ≡ old ++ placed.announced_among guid (xs ++ ys)
 places_joined guid old mid new xs ys one two =
-    two ∙ ap (λ l. l ++ announced_among guid ys) one ∙ append_assoc old (announced_among guid xs) (announced_among guid ys) ∙ ap (λ l. old ++ l) (sym (filter_map-append (announced_of guid) xs ys))
+    two ∙ ap (λ l. l ++ placed.announced_among guid ys) one ∙ append_assoc old (placed.announced_among guid xs) (placed.announced_among guid ys) ∙ ap (λ l. old ++ l) (sym (filter_map-append (placed.announced_of guid) xs ys))

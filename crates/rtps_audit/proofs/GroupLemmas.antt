@@ -7,7 +7,7 @@ use Rattle.std.specs.Map.{lookup}
 use Rattle.std.specs.Ordering.{is_eq, ordering_reverse}
 use Rattle.std.specs.declared.cmp.Ordering.{Ordering}
 use Rattle.std.specs.declared.cmp.Ordering.TheVariants.{Less, Equal, Greater}
-use Rattle.rtps_audit.specs.Placed.{items_or_none, values_at}
+use Rattle.rtps_audit.specs.Placed as placed
 
 pub equal_of : (order : Ordering) → is_eq order ≡ true → order ≡ Equal
 equal_of Less e = cc
@@ -48,19 +48,19 @@ module _ {K A : Type 0} {cmp : K → K → Ordering} (total : IsTotalOrder cmp) 
 
 -- the same of lists
 pub list_grown : {K V : Type 0} {cmp : K → K → Ordering} (total : IsTotalOrder cmp) {X : Type 0} (seen : List V → List X) (old new : BTreeMap K (Vec V)) (key other : K) (list : Vec V) (added : List X) → Updates cmp old new key (Some list)
-    → seen list.items ≡ seen (values_at cmp old key) ++ added → seen (values_at cmp new other) ≡ seen (values_at cmp old other) ++ cond (is_eq (cmp other key)) added []
-list_grown total seen old new key other list added updates grown = entry_grown total (λ found. seen (items_or_none found)) old new key other list added updates (λ e. grown)
+    → seen list.items ≡ seen (placed.values_at cmp old key) ++ added → seen (placed.values_at cmp new other) ≡ seen (placed.values_at cmp old other) ++ cond (is_eq (cmp other key)) added []
+list_grown total seen old new key other list added updates grown = entry_grown total (λ found. seen (placed.items_or_none found)) old new key other list added updates (λ e. grown)
 
 -- the same, where the list was there
 pub list_written : {K V : Type 0} {cmp : K → K → Ordering} (total : IsTotalOrder cmp) {X : Type 0} (seen : List V → List X) (old new : BTreeMap K (Vec V)) (key other : K) (found list : Vec V) (added : List X)
     → (IsSome (get cmp old key) → Updates cmp old new key (Some list)) → get cmp old key ≡ Some found → seen list.items ≡ seen found.items ++ added
-    → seen (values_at cmp new other) ≡ seen (values_at cmp old other) ++ cond (is_eq (cmp other key)) added []
+    → seen (placed.values_at cmp new other) ≡ seen (placed.values_at cmp old other) ++ cond (is_eq (cmp other key)) added []
 list_written total seen old new key other found list added updates there grown =
-    list_grown total seen old new key other list added (updates (subst IsSome (sym there) refl)) (grown ∙ ap (λ o. seen (items_or_none o) ++ added) (sym there))
+    list_grown total seen old new key other list added (updates (subst IsSome (sym there) refl)) (grown ∙ ap (λ o. seen (placed.items_or_none o) ++ added) (sym there))
 
 -- and where there was none
 pub list_begun : {K V : Type 0} {cmp : K → K → Ordering} (total : IsTotalOrder cmp) {X : Type 0} (seen : List V → List X) (old mid new : BTreeMap K (Vec V)) (key other : K) (list : Vec V) (added : List X)
     → mid ≡ old → Updates cmp mid new key (Some list) → get cmp old key ≡ None → seen list.items ≡ seen [] ++ added
-    → seen (values_at cmp new other) ≡ seen (values_at cmp old other) ++ cond (is_eq (cmp other key)) added []
+    → seen (placed.values_at cmp new other) ≡ seen (placed.values_at cmp old other) ++ cond (is_eq (cmp other key)) added []
 list_begun {cmp = cmp} total seen old mid new key other list added same updates none grown =
-    list_grown total seen old new key other list added (subst (λ (m : BTreeMap _ (Vec _)). Updates cmp m new key (Some list)) same updates) (grown ∙ ap (λ o. seen (items_or_none o) ++ added) (sym none))
+    list_grown total seen old new key other list added (subst (λ (m : BTreeMap _ (Vec _)). Updates cmp m new key (Some list)) same updates) (grown ∙ ap (λ o. seen (placed.items_or_none o) ++ added) (sym none))

@@ -6,38 +6,38 @@ use Rattle.std.specs.Prelude.{Contains, ⊤, unwrap_or}
 use Rattle.std.specs.List.{All, cons_option, filter_map}
 use Rattle.std.specs.List.Sorted.{IsNonDecreasingBy}
 use Rattle.std.proofs.lemmas.List.Elements.{All-append, All-contains, All-contains_itself, All-cons, All-filter, All-head, All-nil, All-tail, All-weaker, Contains-append_cases, Contains-append_left, Contains-append_right, Contains-push}
-use Rattle.rtps_receiver.specs.Values.{ActValue}
+use Rattle.rtps_receiver.specs.Values as values
 use Rattle.rtps_discovery.specs.declared.matching.Pair.{Pair}
-use Rattle.rtps_audit.specs.Intake.{acts_together}
-use Rattle.rtps_audit.specs.Placed.{PlacedValue, answer_at, answer_of, answers_among, placed_at, placed_behind, placed_in, placed_value}
-use Rattle.rtps_audit.specs.Speech.{base_for}
+use Rattle.rtps_audit.specs.Intake as intake
+use Rattle.rtps_audit.specs.Placed as placed_spec
+use Rattle.rtps_audit.specs.Speech as speech
 use Rattle.rtps_audit.specs.declared.answer.Answer.{Answer}
 use Rattle.rtps_audit.specs.declared.placed.Placed.{Placed}
 
 -- ---- one datagram more
 
-behind_append : (before : ℕ) (xs : List (List ActValue)) (acts : List ActValue) → placed_behind before (xs ++ acts ∷ []) ≡ placed_behind before xs ++ placed_at (before + length xs + 1) acts
-behind_append before [] acts = append-nil _ ∙ ap (λ n. placed_at n acts) at
+behind_append : (before : ℕ) (xs : List (List values.ActValue)) (acts : List values.ActValue) → placed_spec.placed_behind before (xs ++ acts ∷ []) ≡ placed_spec.placed_behind before xs ++ placed_spec.placed_at (before + length xs + 1) acts
+behind_append before [] acts = append-nil _ ∙ ap (λ n. placed_spec.placed_at n acts) at
   where
     at : before + 1 ≡ before + 0 + 1
     at = omega arith
 behind_append before (x ∷ xs) acts =
-    ap (λ l. placed_at (before + 1) x ++ l) (behind_append (before + 1) xs acts ∙ ap (λ n. placed_behind (before + 1) xs ++ placed_at n acts) at)
-    ∙ sym (append_assoc (placed_at (before + 1) x) (placed_behind (before + 1) xs) _)
+    ap (λ l. placed_spec.placed_at (before + 1) x ++ l) (behind_append (before + 1) xs acts ∙ ap (λ n. placed_spec.placed_behind (before + 1) xs ++ placed_spec.placed_at n acts) at)
+    ∙ sym (append_assoc (placed_spec.placed_at (before + 1) x) (placed_spec.placed_behind (before + 1) xs) _)
   where
     at : before + 1 + length xs + 1 ≡ before + length (x ∷ xs) + 1
     at = omega arith
 
 -- the acts of the next datagram stand behind those of the datagrams so far
-pub placed_push : (recording : List (List ActValue)) (acts : List ActValue) (place : ℕ) → place ≡ length recording → placed_in recording ++ placed_at (place + 1) acts ≡ placed_in (recording ++ acts ∷ [])
-placed_push recording acts place at = ap (λ n. placed_in recording ++ placed_at n acts) number ∙ sym (behind_append 0 recording acts)
+pub placed_push : (recording : List (List values.ActValue)) (acts : List values.ActValue) (place : ℕ) → place ≡ length recording → placed_spec.placed_in recording ++ placed_spec.placed_at (place + 1) acts ≡ placed_spec.placed_in (recording ++ acts ∷ [])
+placed_push recording acts place at = ap (λ n. placed_spec.placed_in recording ++ placed_spec.placed_at n acts) number ∙ sym (behind_append 0 recording acts)
   where
     number : place + 1 ≡ 0 + length recording + 1
     number = omega arith
 
 -- and together with them
-pub together_push : (recording : List (List ActValue)) (acts : List ActValue) → acts_together (recording ++ acts ∷ []) ≡ acts_together recording ++ acts
-together_push recording acts = flat_map-append (λ acts. acts) recording (acts ∷ []) ∙ ap (λ l. acts_together recording ++ l) (append-nil acts)
+pub together_push : (recording : List (List values.ActValue)) (acts : List values.ActValue) → intake.acts_together (recording ++ acts ∷ []) ≡ intake.acts_together recording ++ acts
+together_push recording acts = flat_map-append (λ acts. acts) recording (acts ∷ []) ∙ ap (λ l. intake.acts_together recording ++ l) (append-nil acts)
 
 -- what a function makes of one element more
 pub map_next : {X Y : Type 0} (f : X → Y) (xs : List X) (i : ℕ) (d : X) → i < length xs → map f (take (i + 1) xs) ≡ map f (take i xs) ++ f (get_or xs i d) ∷ []
@@ -86,44 +86,44 @@ falls_nowhere n (x ∷ xs) h zero (suc j) d le lt = h.0 j d (omega arith)
 falls_nowhere n (x ∷ xs) h (suc i) zero d le lt = absurd (omega arith)
 falls_nowhere n (x ∷ xs) h (suc i) (suc j) d le lt = falls_nowhere n xs h.1 i j d (omega arith) (omega arith)
 
-at_one : (datagram : ℕ) (acts : List ActValue) → All (λ (placed : PlacedValue). placed.datagram ≤ datagram) (placed_at datagram acts) × Rising (λ (placed : PlacedValue). placed.datagram) (placed_at datagram acts)
+at_one : (datagram : ℕ) (acts : List values.ActValue) → All (λ (placed : placed_spec.PlacedValue). placed.datagram ≤ datagram) (placed_spec.placed_at datagram acts) × Rising (λ (placed : placed_spec.PlacedValue). placed.datagram) (placed_spec.placed_at datagram acts)
 unfolding Rising
 at_one datagram [] = (All-nil _, tt)
-at_one datagram (act ∷ acts) = let rest = at_one datagram acts in (All-cons (λ (placed : PlacedValue). placed.datagram ≤ datagram) _ _ (omega arith) rest.0, (same acts, rest.1))
+at_one datagram (act ∷ acts) = let rest = at_one datagram acts in (All-cons (λ (placed : placed_spec.PlacedValue). placed.datagram ≤ datagram) _ _ (omega arith) rest.0, (same acts, rest.1))
   where
-    same : (acts : List ActValue) → All (λ (placed : PlacedValue). datagram ≤ placed.datagram) (placed_at datagram acts)
+    same : (acts : List values.ActValue) → All (λ (placed : placed_spec.PlacedValue). datagram ≤ placed.datagram) (placed_spec.placed_at datagram acts)
     same [] = All-nil _
-    same (act ∷ acts) = All-cons (λ (placed : PlacedValue). datagram ≤ placed.datagram) _ _ (omega arith) (same acts)
+    same (act ∷ acts) = All-cons (λ (placed : placed_spec.PlacedValue). datagram ≤ placed.datagram) _ _ (omega arith) (same acts)
 
-from_one : (datagram : ℕ) (acts : List ActValue) → All (λ (placed : PlacedValue). datagram ≤ placed.datagram) (placed_at datagram acts)
+from_one : (datagram : ℕ) (acts : List values.ActValue) → All (λ (placed : placed_spec.PlacedValue). datagram ≤ placed.datagram) (placed_spec.placed_at datagram acts)
 from_one datagram [] = All-nil _
-from_one datagram (act ∷ acts) = All-cons (λ (placed : PlacedValue). datagram ≤ placed.datagram) _ _ (omega arith) (from_one datagram acts)
+from_one datagram (act ∷ acts) = All-cons (λ (placed : placed_spec.PlacedValue). datagram ≤ placed.datagram) _ _ (omega arith) (from_one datagram acts)
 
-rising_behind : (before : ℕ) (recording : List (List ActValue)) → All (λ (placed : PlacedValue). before + 1 ≤ placed.datagram) (placed_behind before recording) × Rising (λ (placed : PlacedValue). placed.datagram) (placed_behind before recording)
+rising_behind : (before : ℕ) (recording : List (List values.ActValue)) → All (λ (placed : placed_spec.PlacedValue). before + 1 ≤ placed.datagram) (placed_spec.placed_behind before recording) × Rising (λ (placed : placed_spec.PlacedValue). placed.datagram) (placed_spec.placed_behind before recording)
 unfolding Rising
 rising_behind before [] = (All-nil _, tt)
 rising_behind before (datagram ∷ recording) =
     let acts = datagram in
     let here = at_one (before + 1) acts in
     let rest = rising_behind (before + 1) recording in
-    let later = All-weaker (λ (placed : PlacedValue). before + 1 + 1 ≤ placed.datagram) (λ (placed : PlacedValue). before + 1 ≤ placed.datagram) (λ placed h. omega arith) (placed_behind (before + 1) recording) rest.0 in
-    (All-append (λ (placed : PlacedValue). before + 1 ≤ placed.datagram) (placed_at (before + 1) acts) _ (from_one (before + 1) acts) later, rising_append (λ (placed : PlacedValue). placed.datagram) (placed_at (before + 1) acts) (placed_behind (before + 1) recording) (before + 1) here.0 later here.1 rest.1)
+    let later = All-weaker (λ (placed : placed_spec.PlacedValue). before + 1 + 1 ≤ placed.datagram) (λ (placed : placed_spec.PlacedValue). before + 1 ≤ placed.datagram) (λ placed h. omega arith) (placed_spec.placed_behind (before + 1) recording) rest.0 in
+    (All-append (λ (placed : placed_spec.PlacedValue). before + 1 ≤ placed.datagram) (placed_spec.placed_at (before + 1) acts) _ (from_one (before + 1) acts) later, rising_append (λ (placed : placed_spec.PlacedValue). placed.datagram) (placed_spec.placed_at (before + 1) acts) (placed_spec.placed_behind (before + 1) recording) (before + 1) here.0 later here.1 rest.1)
 
 -- what is kept of the acts of a recording is in order
-pub kept_in_order : (recording : List (List ActValue)) (test : PlacedValue → Bool) (kept : List Placed) → map placed_value kept ≡ filter test (placed_in recording) → IsNonDecreasingBy (λ (placed : Placed). placed.datagram) kept
+pub kept_in_order : (recording : List (List values.ActValue)) (test : placed_spec.PlacedValue → Bool) (kept : List Placed) → map placed_spec.placed_value kept ≡ filter test (placed_spec.placed_in recording) → IsNonDecreasingBy (λ (placed : Placed). placed.datagram) kept
 kept_in_order recording test kept same i j d le lt =
-    let rises = falls_nowhere (λ (placed : PlacedValue). placed.datagram) (filter test (placed_in recording)) (rising_filter _ test (placed_in recording) (rising_behind 0 recording).1) in
-    let also = subst (IsNonDecreasingBy (λ (placed : PlacedValue). placed.datagram)) (sym same) rises in
-    let here = also i j (placed_value d) le (omega (arith, length-map kept placed_value)) in
-    let one = ap (λ (placed : PlacedValue). placed.datagram) (get_or-map placed_value kept i d (placed_value d) (omega arith)) in
-    let two = ap (λ (placed : PlacedValue). placed.datagram) (get_or-map placed_value kept j d (placed_value d) lt) in
+    let rises = falls_nowhere (λ (placed : placed_spec.PlacedValue). placed.datagram) (filter test (placed_spec.placed_in recording)) (rising_filter _ test (placed_spec.placed_in recording) (rising_behind 0 recording).1) in
+    let also = subst (IsNonDecreasingBy (λ (placed : placed_spec.PlacedValue). placed.datagram)) (sym same) rises in
+    let here = also i j (placed_spec.placed_value d) le (omega (arith, length-map kept placed_spec.placed_value)) in
+    let one = ap (λ (placed : placed_spec.PlacedValue). placed.datagram) (get_or-map placed_spec.placed_value kept i d (placed_spec.placed_value d) (omega arith)) in
+    let two = ap (λ (placed : placed_spec.PlacedValue). placed.datagram) (get_or-map placed_spec.placed_value kept j d (placed_spec.placed_value d) lt) in
     omega arith
 
 -- ---- where they stand
 
-pub record StandsIn (before : ℕ) (recording : List (List ActValue)) (placed : PlacedValue) : Type 0 where
+pub record StandsIn (before : ℕ) (recording : List (List values.ActValue)) (placed : placed_spec.PlacedValue) : Type 0 where
   pub place : ℕ
-  pub datagram : List ActValue
+  pub datagram : List values.ActValue
   pub stands : slice_get recording place ≡ Some datagram
   pub at : placed.datagram ≡ before + place + 1
   pub among : Contains datagram placed.act
@@ -141,23 +141,23 @@ contains_cases y xs x (suc k, lt, is) = inr (k, omega arith, is)
 pub contains_none : {X : Type 0} (x : X) → Contains [] x → ⊥
 contains_none x (k, lt, is) = omega arith
 
-contains_at : (datagram : ℕ) (acts : List ActValue) (placed : PlacedValue) → Contains (placed_at datagram acts) placed → (placed.datagram ≡ datagram) × Contains acts placed.act
+contains_at : (datagram : ℕ) (acts : List values.ActValue) (placed : placed_spec.PlacedValue) → Contains (placed_spec.placed_at datagram acts) placed → (placed.datagram ≡ datagram) × Contains acts placed.act
 contains_at datagram [] placed among = absurd (contains_none placed among)
 contains_at datagram (act ∷ acts) placed among = elim (contains_cases _ _ placed among) [
-  | inl here ↦ (sym (ap (λ (p : PlacedValue). p.datagram) here), subst (Contains (act ∷ acts)) (ap (λ (p : PlacedValue). p.act) here) (contains_head act acts))
+  | inl here ↦ (sym (ap (λ (p : placed_spec.PlacedValue). p.datagram) here), subst (Contains (act ∷ acts)) (ap (λ (p : placed_spec.PlacedValue). p.act) here) (contains_head act acts))
   | inr there ↦ let rest = contains_at datagram acts placed there in (rest.0, contains_tail act acts placed.act rest.1)
 ]
 
-at_contains : (datagram : ℕ) (acts : List ActValue) (act : ActValue) → Contains acts act → Contains (placed_at datagram acts) (record { datagram = datagram; act = act })
+at_contains : (datagram : ℕ) (acts : List values.ActValue) (act : values.ActValue) → Contains acts act → Contains (placed_spec.placed_at datagram acts) (record { datagram = datagram; act = act })
 at_contains datagram [] act among = absurd (contains_none act among)
 at_contains datagram (first ∷ acts) act among = elim (contains_cases first acts act among) [
-  | inl here ↦ subst (λ a. Contains (placed_at datagram (first ∷ acts)) (record { datagram = datagram; act = a })) here (contains_head _ _)
+  | inl here ↦ subst (λ a. Contains (placed_spec.placed_at datagram (first ∷ acts)) (record { datagram = datagram; act = a })) here (contains_head _ _)
   | inr there ↦ contains_tail _ _ _ (at_contains datagram acts act there)
 ]
 
-pub stands_where : (before : ℕ) (recording : List (List ActValue)) (placed : PlacedValue) → Contains (placed_behind before recording) placed → StandsIn before recording placed
+pub stands_where : (before : ℕ) (recording : List (List values.ActValue)) (placed : placed_spec.PlacedValue) → Contains (placed_spec.placed_behind before recording) placed → StandsIn before recording placed
 stands_where before [] placed among = absurd (contains_none placed among)
-stands_where before (datagram ∷ recording) placed among = elim (Contains-append_cases (placed_at (before + 1) datagram) (placed_behind (before + 1) recording) placed among) [
+stands_where before (datagram ∷ recording) placed among = elim (Contains-append_cases (placed_spec.placed_at (before + 1) datagram) (placed_spec.placed_behind (before + 1) recording) placed among) [
   | inl here ↦
       let is = contains_at (before + 1) datagram placed here in
       let at = is.0 in
@@ -168,18 +168,18 @@ stands_where before (datagram ∷ recording) placed among = elim (Contains-appen
       record { place = suc rest.place; datagram = rest.datagram; stands = rest.stands; at = omega arith; among = rest.among }
 ]
 
-pub stands_there : (before place : ℕ) (recording : List (List ActValue)) (datagram : List ActValue) (act : ActValue) → slice_get recording place ≡ Some datagram → Contains datagram act
-    → Contains (placed_behind before recording) (record { datagram = before + place + 1; act = act })
+pub stands_there : (before place : ℕ) (recording : List (List values.ActValue)) (datagram : List values.ActValue) (act : values.ActValue) → slice_get recording place ≡ Some datagram → Contains datagram act
+    → Contains (placed_spec.placed_behind before recording) (record { datagram = before + place + 1; act = act })
 stands_there before place [] datagram act stands among = cc
 stands_there before zero (first ∷ recording) datagram act stands among =
     let same : datagram ≡ first = (let h = stands in cc) in
     let here = at_contains (before + 1) (first) act (subst (λ o. Contains (o) act) same among) in
     let at : before + 1 ≡ before + 0 + 1 = omega arith in
-    subst (λ n. Contains (placed_behind before (first ∷ recording)) (record { datagram = n; act = act })) at (Contains-append_left (placed_at (before + 1) (first)) (placed_behind (before + 1) recording) _ here)
+    subst (λ n. Contains (placed_spec.placed_behind before (first ∷ recording)) (record { datagram = n; act = act })) at (Contains-append_left (placed_spec.placed_at (before + 1) (first)) (placed_spec.placed_behind (before + 1) recording) _ here)
 stands_there before (suc place) (first ∷ recording) datagram act stands among =
     let rest = stands_there (before + 1) place recording datagram act stands among in
     let at : before + 1 + place + 1 ≡ before + suc place + 1 = omega arith in
-    subst (λ n. Contains (placed_behind before (first ∷ recording)) (record { datagram = n; act = act })) at (Contains-append_right (placed_at (before + 1) (first)) (placed_behind (before + 1) recording) _ rest)
+    subst (λ n. Contains (placed_spec.placed_behind before (first ∷ recording)) (record { datagram = n; act = act })) at (Contains-append_right (placed_spec.placed_at (before + 1) (first)) (placed_spec.placed_behind (before + 1) recording) _ rest)
 
 -- ---- what a filter keeps
 
@@ -231,9 +231,9 @@ rising_made {X} {Y} n m h keeps (x ∷ xs) rises = by_value (h x) refl (rising_m
     by_value (Some y) e rest = (All-weaker (Contains (filter_map h xs)) (λ z. m y ≤ m z) (λ z among. let from = made_from h xs z among in let le = All-contains (λ w. n x ≤ n w) xs from.0 rises.0 from.1 in omega (arith, keeps x y e, keeps from.0 z from.2)) (filter_map h xs) (All-contains_itself (filter_map h xs)), rest)
 
 -- the answers of a pair are in the order of their datagrams
-pub answers_in_order : (pair : Pair) (recording : List (List ActValue)) → IsNonDecreasingBy (λ (answer : Answer). answer.datagram) (answers_among pair (placed_in recording))
-answers_in_order pair recording = falls_nowhere (λ (answer : Answer). answer.datagram) (answers_among pair (placed_in recording)) (rising_made (λ (placed : PlacedValue). placed.datagram) (λ (answer : Answer). answer.datagram) (answer_of pair) (λ placed answer e. stands (base_for pair.writer pair.reader placed.act) placed.datagram placed.act.at answer e) (placed_in recording) (rising_behind 0 recording).1)
+pub answers_in_order : (pair : Pair) (recording : List (List values.ActValue)) → IsNonDecreasingBy (λ (answer : Answer). answer.datagram) (placed_spec.answers_among pair (placed_spec.placed_in recording))
+answers_in_order pair recording = falls_nowhere (λ (answer : Answer). answer.datagram) (placed_spec.answers_among pair (placed_spec.placed_in recording)) (rising_made (λ (placed : placed_spec.PlacedValue). placed.datagram) (λ (answer : Answer). answer.datagram) (placed_spec.answer_of pair) (λ placed answer e. stands (speech.base_for pair.writer pair.reader placed.act) placed.datagram placed.act.at answer e) (placed_spec.placed_in recording) (rising_behind 0 recording).1)
   where
-    stands : (base : Option ℕ) (datagram at : ℕ) (answer : Answer) → answer_at datagram at base ≡ Some answer → answer.datagram ≡ datagram
+    stands : (base : Option ℕ) (datagram at : ℕ) (answer : Answer) → placed_spec.answer_at datagram at base ≡ Some answer → answer.datagram ≡ datagram
     stands None datagram at answer e = cc
     stands (Some base) datagram at answer e = sym (ap (λ (o : Option Answer). let none : Answer = answer in (unwrap_or o none).datagram) e)

@@ -18,16 +18,15 @@ use Rattle.std.proofs.lemmas.Map.Text.{is_eq-slice_cmp}
 use Rattle.std.proofs.lemmas.Slice.Eq.{bytes_eq-Decides}
 use Rattle.rtps_ids.specs.declared.identity.Guid.{Guid}
 use Rattle.rtps_ids.specs.declared.identity.GuidPrefix.{GuidPrefix}
-use Rattle.rtps_receiver.specs.Speech.{answered_at, entity_from, is_entity, is_for, is_prefix, names_pair, origin_of, writer_answered}
-use Rattle.rtps_receiver.specs.Values.{ActBodyValue, ActValue, spoken_value}
-use Rattle.rtps_receiver.specs.Values.ActBodyValue.{AckNack}
+use Rattle.rtps_receiver.specs.Speech as receiver_speech
+use Rattle.rtps_receiver.specs.Values as values
 use Rattle.rtps_wire.specs.declared.body.AckNackBody.{AckNackBody}
 use Rattle.rtps_receiver.specs.declared.spoken.Spoken.{Spoken}
-use Rattle.rtps_discovery.specs.GuidOrder.{guid_cmp}
-use Rattle.rtps_discovery.specs.Listings.{pair_cmp}
+use Rattle.rtps_discovery.specs.GuidOrder as guid_order
+use Rattle.rtps_discovery.specs.Listings as listings
 use Rattle.rtps_discovery.specs.declared.matching.Pair.{Pair}
-use Rattle.rtps_audit.specs.Placed.{AddsAnswers, AddsAnswersOf, PlacedValue, answer_at, answer_of, answers_among, answers_to, is_from, is_guid, placed_at, values_at}
-use Rattle.rtps_audit.specs.Speech.{base_of_body}
+use Rattle.rtps_audit.specs.Placed as placed_spec
+use Rattle.rtps_audit.specs.Speech as speech
 use Rattle.rtps_audit.specs.declared.answer.Answer.{Answer}
 use Rattle.rtps_audit.specs.declared.groups.Groups.{Groups}
 use Rattle.rtps_audit.proofs.GroupLemmas.{entry_grown}
@@ -40,44 +39,44 @@ is_eq-then Greater b = refl
 pub both : {a b c d : Bool} → a ≡ c → b ≡ d → a && b ≡ c && d
 both e f = rw (e, f) refl
 
-pub guids_total : IsTotalOrder guid_cmp
+pub guids_total : IsTotalOrder guid_order.guid_cmp
 guids_total = then_total (on_total (λ guid. guid.prefix.0) nat_list_cmp_total) (on_total (λ guid. guid.entity.0) nat_list_cmp_total)
 
 -- GUIDs that compare alike are those that the test holds of
-pub is_eq-guid_cmp : (one other : Guid) → is_eq (guid_cmp one other) ≡ is_guid one other
+pub is_eq-guid_cmp : (one other : Guid) → is_eq (guid_order.guid_cmp one other) ≡ placed_spec.is_guid one other
 is_eq-guid_cmp one other = is_eq-then _ _ ∙ both (is_eq-slice_cmp one.prefix.0 other.prefix.0) (is_eq-slice_cmp one.entity.0 other.entity.0)
 
 -- the answer of an act of this source, destination and body
-answer_by : ℕ → ℕ → GuidPrefix → Option GuidPrefix → ActBodyValue → Pair → Option Answer
+answer_by : ℕ → ℕ → GuidPrefix → Option GuidPrefix → values.ActBodyValue → Pair → Option Answer
 answer_by datagram at source dest body pair =
-    answer_at datagram at (if is_prefix source pair.reader.prefix && (is_for dest pair.writer.prefix && names_pair body pair.reader.entity pair.writer.entity) then base_of_body body else None)
+    placed_spec.answer_at datagram at (if receiver_speech.is_prefix source pair.reader.prefix && (receiver_speech.is_for dest pair.writer.prefix && receiver_speech.names_pair body pair.reader.entity pair.writer.entity) then speech.base_of_body body else None)
 
 pub bytes_eq-sym : (xs ys : List ℕ) → bytes_eq xs ys ≡ bytes_eq ys xs
 bytes_eq-sym xs ys =
     both_ways _ _ (λ e. (bytes_eq-Decides ys xs).1 (sym ((bytes_eq-Decides xs ys).0 e))) (λ e. (bytes_eq-Decides xs ys).1 (sym ((bytes_eq-Decides ys xs).0 e)))
 
 -- the answer that an ACKNACK for a participant is, is of one pair
-answer_for : (datagram : ℕ) (act : ActValue) (ack_nack : AckNackBody) (dest : GuidPrefix) (pair : Pair) (number : ℤ) → act.body ≡ AckNack ack_nack → act.dest ≡ Some dest → number ≡ pos ack_nack.set.base
-    → answer_of pair (record { datagram = datagram; act = act })
-    ≡ cond (is_eq (pair_cmp pair (record { writer = record { prefix = dest; entity = ack_nack.writer }; reader = origin_of act }))) (Some (record { datagram = datagram; at = act.at; base = number })) None
+answer_for : (datagram : ℕ) (act : values.ActValue) (ack_nack : AckNackBody) (dest : GuidPrefix) (pair : Pair) (number : ℤ) → act.body ≡ values.ActBodyValue.AckNack ack_nack → act.dest ≡ Some dest → number ≡ pos ack_nack.set.base
+    → placed_spec.answer_of pair (record { datagram = datagram; act = act })
+    ≡ cond (is_eq (listings.pair_cmp pair (record { writer = record { prefix = dest; entity = ack_nack.writer }; reader = receiver_speech.origin_of act }))) (Some (record { datagram = datagram; at = act.at; base = number })) None
 unfolding answer_by
 answer_for datagram act ack_nack dest pair number body to is =
     ap (λ d. answer_by datagram act.at act.source d act.body pair) to
     ∙ ap (λ b. answer_by datagram act.at act.source (Some dest) b pair) body
-    ∙ by_test (is_prefix act.source pair.reader.prefix) (is_entity ack_nack.reader pair.reader.entity) (is_prefix dest pair.writer.prefix) (is_entity ack_nack.writer pair.writer.entity)
+    ∙ by_test (receiver_speech.is_prefix act.source pair.reader.prefix) (receiver_speech.is_entity ack_nack.reader pair.reader.entity) (receiver_speech.is_prefix dest pair.writer.prefix) (receiver_speech.is_entity ack_nack.writer pair.writer.entity)
     ∙ ap (λ b. cond b (Some (record { datagram = datagram; at = act.at; base = number })) None) (sym same)
   where
     writer : Guid
     writer = record { prefix = dest; entity = ack_nack.writer }
 
-    guids : (one other : Guid) → is_eq (guid_cmp one other) ≡ is_guid other one
+    guids : (one other : Guid) → is_eq (guid_order.guid_cmp one other) ≡ placed_spec.is_guid other one
     guids one other = is_eq-guid_cmp one other ∙ both (bytes_eq-sym one.prefix.0 other.prefix.0) (bytes_eq-sym one.entity.0 other.entity.0)
 
-    same : is_eq (pair_cmp pair (record { writer = writer; reader = origin_of act }))
-        ≡ (is_prefix dest pair.writer.prefix && is_entity ack_nack.writer pair.writer.entity) && (is_prefix act.source pair.reader.prefix && is_entity ack_nack.reader pair.reader.entity)
-    same = is_eq-then _ _ ∙ both (guids pair.writer writer) (guids pair.reader (origin_of act) ∙ ap (λ b. is_prefix act.source pair.reader.prefix && is_entity (entity_from b) pair.reader.entity) body)
+    same : is_eq (listings.pair_cmp pair (record { writer = writer; reader = receiver_speech.origin_of act }))
+        ≡ (receiver_speech.is_prefix dest pair.writer.prefix && receiver_speech.is_entity ack_nack.writer pair.writer.entity) && (receiver_speech.is_prefix act.source pair.reader.prefix && receiver_speech.is_entity ack_nack.reader pair.reader.entity)
+    same = is_eq-then _ _ ∙ both (guids pair.writer writer) (guids pair.reader (receiver_speech.origin_of act) ∙ ap (λ b. receiver_speech.is_prefix act.source pair.reader.prefix && receiver_speech.is_entity (receiver_speech.entity_from b) pair.reader.entity) body)
 
-    by_test : (a b c d : Bool) → answer_at datagram act.at (if a && (c && (b && d)) then Some ack_nack.set.base else None)
+    by_test : (a b c d : Bool) → placed_spec.answer_at datagram act.at (if a && (c && (b && d)) then Some ack_nack.set.base else None)
         ≡ cond ((c && d) && (a && b)) (Some (record { datagram = datagram; at = act.at; base = number })) None
     by_test true true true true = ap (λ z. let made : Answer = record { datagram = datagram; at = act.at; base = z } in Some made) (sym is)
     by_test true true true false = refl
@@ -88,25 +87,25 @@ answer_for datagram act ack_nack dest pair number body to is =
     by_test false b true false = refl
     by_test false b false d = refl
 
-pub answer_read : (datagram : ℕ) (act : ActValue) (ack_nack : AckNackBody) (writer reader : Guid) (pair : Pair) (number : ℤ) → act.body ≡ AckNack ack_nack → writer_answered act ≡ Some writer → reader ≡ origin_of act → number ≡ pos ack_nack.set.base
-    → answer_of pair (record { datagram = datagram; act = act }) ≡ cond (is_eq (pair_cmp pair (record { writer = writer; reader = reader }))) (Some (record { datagram = datagram; at = act.at; base = number })) None
+pub answer_read : (datagram : ℕ) (act : values.ActValue) (ack_nack : AckNackBody) (writer reader : Guid) (pair : Pair) (number : ℤ) → act.body ≡ values.ActBodyValue.AckNack ack_nack → receiver_speech.writer_answered act ≡ Some writer → reader ≡ receiver_speech.origin_of act → number ≡ pos ack_nack.set.base
+    → placed_spec.answer_of pair (record { datagram = datagram; act = act }) ≡ cond (is_eq (listings.pair_cmp pair (record { writer = writer; reader = reader }))) (Some (record { datagram = datagram; at = act.at; base = number })) None
 answer_read datagram act ack_nack writer reader pair number body answered from is =
-    by_dest act.dest refl (sym (ap (answered_at act.dest) body) ∙ answered)
-    ∙ ap (λ r. let it : Answer = record { datagram = datagram; at = act.at; base = number } in cond (is_eq (pair_cmp pair (record { writer = writer; reader = r }))) (Some it) None) (sym from)
+    by_dest act.dest refl (sym (ap (receiver_speech.answered_at act.dest) body) ∙ answered)
+    ∙ ap (λ r. let it : Answer = record { datagram = datagram; at = act.at; base = number } in cond (is_eq (listings.pair_cmp pair (record { writer = writer; reader = r }))) (Some it) None) (sym from)
   where
-    by_dest : (dest : Option GuidPrefix) → act.dest ≡ dest → answered_at dest (AckNack ack_nack) ≡ Some writer
-        → answer_of pair (record { datagram = datagram; act = act }) ≡ cond (is_eq (pair_cmp pair (record { writer = writer; reader = origin_of act }))) (Some (record { datagram = datagram; at = act.at; base = number })) None
+    by_dest : (dest : Option GuidPrefix) → act.dest ≡ dest → receiver_speech.answered_at dest (values.ActBodyValue.AckNack ack_nack) ≡ Some writer
+        → placed_spec.answer_of pair (record { datagram = datagram; act = act }) ≡ cond (is_eq (listings.pair_cmp pair (record { writer = writer; reader = receiver_speech.origin_of act }))) (Some (record { datagram = datagram; at = act.at; base = number })) None
     by_dest None e h = cc
     by_dest (Some dest) e h =
         let named : Guid = record { prefix = dest; entity = ack_nack.writer } in
         let same : named ≡ writer = cc in
-        subst (λ (w : Guid). answer_of pair (record { datagram = datagram; act = act }) ≡ cond (is_eq (pair_cmp pair (record { writer = w; reader = origin_of act }))) (Some (record { datagram = datagram; at = act.at; base = number })) None) same
+        subst (λ (w : Guid). placed_spec.answer_of pair (record { datagram = datagram; act = act }) ≡ cond (is_eq (listings.pair_cmp pair (record { writer = w; reader = receiver_speech.origin_of act }))) (Some (record { datagram = datagram; at = act.at; base = number })) None) same
         (answer_for datagram act ack_nack dest pair number body e is)
 
 -- the answers of the reader that an entry lends
-pub lent_answers : (writer : Guid) (found value : Option (Groups Guid Answer)) (empty lent : Groups Guid Answer) → values_at guid_cmp empty.map writer ≡ [] → value ≡ found → lent ≡ unwrap_or value empty → values_at guid_cmp lent.map writer ≡ answers_to found writer
-lent_answers writer found None empty lent none same is = ap (λ (g : Groups Guid Answer). values_at guid_cmp g.map writer) is ∙ none ∙ ap (λ f. answers_to f writer) same
-lent_answers writer found (Some held) empty lent none same is = ap (λ (g : Groups Guid Answer). values_at guid_cmp g.map writer) is ∙ ap (λ f. answers_to f writer) same
+pub lent_answers : (writer : Guid) (found value : Option (Groups Guid Answer)) (empty lent : Groups Guid Answer) → placed_spec.values_at guid_order.guid_cmp empty.map writer ≡ [] → value ≡ found → lent ≡ unwrap_or value empty → placed_spec.values_at guid_order.guid_cmp lent.map writer ≡ placed_spec.answers_to found writer
+lent_answers writer found None empty lent none same is = ap (λ (g : Groups Guid Answer). placed_spec.values_at guid_order.guid_cmp g.map writer) is ∙ none ∙ ap (λ f. placed_spec.answers_to f writer) same
+lent_answers writer found (Some held) empty lent none same is = ap (λ (g : Groups Guid Answer). placed_spec.values_at guid_order.guid_cmp g.map writer) is ∙ ap (λ f. placed_spec.answers_to f writer) same
 
 -- one answer more, where there is one
 pub answer_added : (found : Option Answer) (is_its : Bool) (answer : Answer) → found ≡ cond is_its (Some answer) None → cond is_its (answer ∷ []) [] ≡ cons_option found []
@@ -135,60 +134,60 @@ no_pair =
     record { writer = none; reader = none }
 
 -- acts of one GUID in a datagram are all of its acts or none
-pub run_filtered : (datagram : ℕ) (origin other : Guid) (acts : List Spoken) → All (λ act. origin_of (spoken_value act) ≡ origin) acts
-    → filter (is_from other) (placed_at datagram (map spoken_value acts)) ≡ cond (is_eq (guid_cmp other origin)) (placed_at datagram (map spoken_value acts)) []
-run_filtered datagram origin other [] from = none (is_eq (guid_cmp other origin))
+pub run_filtered : (datagram : ℕ) (origin other : Guid) (acts : List Spoken) → All (λ act. receiver_speech.origin_of (values.spoken_value act) ≡ origin) acts
+    → filter (placed_spec.is_from other) (placed_spec.placed_at datagram (map values.spoken_value acts)) ≡ cond (is_eq (guid_order.guid_cmp other origin)) (placed_spec.placed_at datagram (map values.spoken_value acts)) []
+run_filtered datagram origin other [] from = none (is_eq (guid_order.guid_cmp other origin))
   where
-    none : (b : Bool) → [] ≡ cond b (placed_at datagram []) []
+    none : (b : Bool) → [] ≡ cond b (placed_spec.placed_at datagram []) []
     none true = refl
     none false = refl
 run_filtered datagram origin other (act ∷ acts) from =
-    ap (λ b. cond b (first ∷ filter (is_from other) later) (filter (is_from other) later)) (ap (is_guid other) (All-head (λ (a : Spoken). origin_of (spoken_value a) ≡ origin) act acts from) ∙ sym (is_eq-guid_cmp other origin))
-    ∙ ap (λ l. cond (is_eq (guid_cmp other origin)) (first ∷ l) l) (run_filtered datagram origin other acts (All-tail (λ (a : Spoken). origin_of (spoken_value a) ≡ origin) act acts from))
-    ∙ by_test (is_eq (guid_cmp other origin))
+    ap (λ b. cond b (first ∷ filter (placed_spec.is_from other) later) (filter (placed_spec.is_from other) later)) (ap (placed_spec.is_guid other) (All-head (λ (a : Spoken). receiver_speech.origin_of (values.spoken_value a) ≡ origin) act acts from) ∙ sym (is_eq-guid_cmp other origin))
+    ∙ ap (λ l. cond (is_eq (guid_order.guid_cmp other origin)) (first ∷ l) l) (run_filtered datagram origin other acts (All-tail (λ (a : Spoken). receiver_speech.origin_of (values.spoken_value a) ≡ origin) act acts from))
+    ∙ by_test (is_eq (guid_order.guid_cmp other origin))
   where
-    first : PlacedValue
-    first = record { datagram = datagram; act = spoken_value act }
+    first : placed_spec.PlacedValue
+    first = record { datagram = datagram; act = values.spoken_value act }
 
-    later : List PlacedValue
-    later = placed_at datagram (map spoken_value acts)
+    later : List placed_spec.PlacedValue
+    later = placed_spec.placed_at datagram (map values.spoken_value acts)
 
     by_test : (b : Bool) → cond b (first ∷ cond b later []) (cond b later []) ≡ cond b (first ∷ later) []
     by_test true = refl
     by_test false = refl
 
-pub placed_both : (datagram : ℕ) (xs ys : List Spoken) → placed_at datagram (map spoken_value (xs ++ ys)) ≡ placed_at datagram (map spoken_value xs) ++ placed_at datagram (map spoken_value ys)
-placed_both datagram xs ys = ap (placed_at datagram) (map-append spoken_value xs ys) ∙ map-append _ (map spoken_value xs) _
+pub placed_both : (datagram : ℕ) (xs ys : List Spoken) → placed_spec.placed_at datagram (map values.spoken_value (xs ++ ys)) ≡ placed_spec.placed_at datagram (map values.spoken_value xs) ++ placed_spec.placed_at datagram (map values.spoken_value ys)
+placed_both datagram xs ys = ap (placed_spec.placed_at datagram) (map-append values.spoken_value xs ys) ∙ map-append _ (map values.spoken_value xs) _
 
 -- lists with some acts more, and with some more behind these
-pub acts_joined : (origin : Guid) (old mid new : List PlacedValue) (xs ys : List PlacedValue) → mid ≡ old ++ filter (is_from origin) xs → new ≡ mid ++ filter (is_from origin) ys → new ≡ old ++ filter (is_from origin) (xs ++ ys)
+pub acts_joined : (origin : Guid) (old mid new : List placed_spec.PlacedValue) (xs ys : List placed_spec.PlacedValue) → mid ≡ old ++ filter (placed_spec.is_from origin) xs → new ≡ mid ++ filter (placed_spec.is_from origin) ys → new ≡ old ++ filter (placed_spec.is_from origin) (xs ++ ys)
 acts_joined origin old mid new xs ys one two =
-    two ∙ ap (λ l. l ++ filter (is_from origin) ys) one ∙ append_assoc old (filter (is_from origin) xs) (filter (is_from origin) ys) ∙ ap (λ l. old ++ l) (sym (filter-append (is_from origin) xs ys))
+    two ∙ ap (λ l. l ++ filter (placed_spec.is_from origin) ys) one ∙ append_assoc old (filter (placed_spec.is_from origin) xs) (filter (placed_spec.is_from origin) ys) ∙ ap (λ l. old ++ l) (sym (filter-append (placed_spec.is_from origin) xs ys))
 
-pub answers_joined : (pair : Pair) (old mid new : List Answer) (xs ys : List PlacedValue) → mid ≡ old ++ answers_among pair xs → new ≡ mid ++ answers_among pair ys → new ≡ old ++ answers_among pair (xs ++ ys)
+pub answers_joined : (pair : Pair) (old mid new : List Answer) (xs ys : List placed_spec.PlacedValue) → mid ≡ old ++ placed_spec.answers_among pair xs → new ≡ mid ++ placed_spec.answers_among pair ys → new ≡ old ++ placed_spec.answers_among pair (xs ++ ys)
 answers_joined pair old mid new xs ys one two =
-    two ∙ ap (λ l. l ++ answers_among pair ys) one ∙ append_assoc old (answers_among pair xs) (answers_among pair ys) ∙ ap (λ l. old ++ l) (sym (filter_map-append (answer_of pair) xs ys))
+    two ∙ ap (λ l. l ++ placed_spec.answers_among pair ys) one ∙ append_assoc old (placed_spec.answers_among pair xs) (placed_spec.answers_among pair ys) ∙ ap (λ l. old ++ l) (sym (filter_map-append (placed_spec.answer_of pair) xs ys))
 
 -- the acts of a datagram, with one more of it
 pub placed_more : (datagram : ℕ) (acts : List Spoken) (i : ℕ) (act : Spoken) → i < length acts → act ≡ get_or acts i act
-    → placed_at datagram (map spoken_value (take (i + 1) acts)) ≡ placed_at datagram (map spoken_value (take i acts)) ++ placed_at datagram (spoken_value act ∷ [])
+    → placed_spec.placed_at datagram (map values.spoken_value (take (i + 1) acts)) ≡ placed_spec.placed_at datagram (map values.spoken_value (take i acts)) ++ placed_spec.placed_at datagram (values.spoken_value act ∷ [])
 placed_more datagram acts i act lt at =
-    ap (λ l. placed_at datagram (map spoken_value l)) (take_more acts i act lt ∙ ap (λ a. take i acts ++ a ∷ []) (sym at)) ∙ ap (placed_at datagram) (map-append spoken_value (take i acts) _) ∙ map-append _ (map spoken_value (take i acts)) _
+    ap (λ l. placed_spec.placed_at datagram (map values.spoken_value l)) (take_more acts i act lt ∙ ap (λ a. take i acts ++ a ∷ []) (sym at)) ∙ ap (placed_spec.placed_at datagram) (map-append values.spoken_value (take i acts) _) ∙ map-append _ (map values.spoken_value (take i acts)) _
 
 -- ---- answers of one reader
 
 -- one answer more of its reader
-pub AddsAnswersOf-one : (old new : BTreeMap Guid (Vec Answer)) (reader : Guid) (placed : PlacedValue) (found : Pair) (answer : Answer) → found.reader ≡ reader
-    → ((pair : Pair) → answer_of pair placed ≡ cond (is_eq (pair_cmp pair found)) (Some answer) None)
-    → ((writer : Guid) → values_at guid_cmp new writer ≡ values_at guid_cmp old writer ++ cond (is_eq (guid_cmp writer found.writer)) (answer ∷ []) [])
-    → AddsAnswersOf reader old new (placed ∷ [])
+pub AddsAnswersOf-one : (old new : BTreeMap Guid (Vec Answer)) (reader : Guid) (placed : placed_spec.PlacedValue) (found : Pair) (answer : Answer) → found.reader ≡ reader
+    → ((pair : Pair) → placed_spec.answer_of pair placed ≡ cond (is_eq (listings.pair_cmp pair found)) (Some answer) None)
+    → ((writer : Guid) → placed_spec.values_at guid_order.guid_cmp new writer ≡ placed_spec.values_at guid_order.guid_cmp old writer ++ cond (is_eq (guid_order.guid_cmp writer found.writer)) (answer ∷ []) [])
+    → placed_spec.AddsAnswersOf reader old new (placed ∷ [])
 AddsAnswersOf-one old new reader placed found answer of is added = record {
-  own = λ pair e. added pair.writer ∙ ap (λ l. values_at guid_cmp old pair.writer ++ l) (alone (is_eq (guid_cmp pair.writer found.writer)) _ (its pair ∙ ap (λ b. is_eq (guid_cmp pair.writer found.writer) && b) e) ∙ answer_added _ _ answer (is pair));
-  others = λ pair e. sym (answer_added _ _ answer (is pair)) ∙ nobody (is_eq (guid_cmp pair.writer found.writer)) _ (its pair ∙ ap (λ b. is_eq (guid_cmp pair.writer found.writer) && b) e);
+  own = λ pair e. added pair.writer ∙ ap (λ l. placed_spec.values_at guid_order.guid_cmp old pair.writer ++ l) (alone (is_eq (guid_order.guid_cmp pair.writer found.writer)) _ (its pair ∙ ap (λ b. is_eq (guid_order.guid_cmp pair.writer found.writer) && b) e) ∙ answer_added _ _ answer (is pair));
+  others = λ pair e. sym (answer_added _ _ answer (is pair)) ∙ nobody (is_eq (guid_order.guid_cmp pair.writer found.writer)) _ (its pair ∙ ap (λ b. is_eq (guid_order.guid_cmp pair.writer found.writer) && b) e);
 }
   where
-    its : (pair : Pair) → is_eq (pair_cmp pair found) ≡ is_eq (guid_cmp pair.writer found.writer) && is_eq (guid_cmp pair.reader reader)
-    its pair = is_eq-then _ _ ∙ ap (λ r. is_eq (guid_cmp pair.writer found.writer) && is_eq (guid_cmp pair.reader r)) of
+    its : (pair : Pair) → is_eq (listings.pair_cmp pair found) ≡ is_eq (guid_order.guid_cmp pair.writer found.writer) && is_eq (guid_order.guid_cmp pair.reader reader)
+    its pair = is_eq-then _ _ ∙ ap (λ r. is_eq (guid_order.guid_cmp pair.writer found.writer) && is_eq (guid_order.guid_cmp pair.reader r)) of
 
     alone : (a b : Bool) → b ≡ a && true → cond a (answer ∷ []) [] ≡ cond b (answer ∷ []) []
     alone true b e = ap (λ x. cond x (answer ∷ []) []) (sym e)
@@ -198,19 +197,19 @@ AddsAnswersOf-one old new reader placed found answer of is added = record {
     nobody true b e = ap (λ x. cond x (answer ∷ []) []) e
     nobody false b e = ap (λ x. cond x (answer ∷ []) []) e
 
-pub AddsAnswersOf-joined : (reader : Guid) (old mid new : BTreeMap Guid (Vec Answer)) (xs ys : List PlacedValue) → AddsAnswersOf reader old mid xs → AddsAnswersOf reader mid new ys → AddsAnswersOf reader old new (xs ++ ys)
+pub AddsAnswersOf-joined : (reader : Guid) (old mid new : BTreeMap Guid (Vec Answer)) (xs ys : List placed_spec.PlacedValue) → placed_spec.AddsAnswersOf reader old mid xs → placed_spec.AddsAnswersOf reader mid new ys → placed_spec.AddsAnswersOf reader old new (xs ++ ys)
 AddsAnswersOf-joined reader old mid new xs ys one two = record {
   own = λ pair e. answers_joined pair _ _ _ xs ys (one.own pair e) (two.own pair e);
-  others = λ pair e. filter_map-append (answer_of pair) xs ys ∙ ap (λ l. l ++ answers_among pair ys) (one.others pair e) ∙ two.others pair e;
+  others = λ pair e. filter_map-append (placed_spec.answer_of pair) xs ys ∙ ap (λ l. l ++ placed_spec.answers_among pair ys) (one.others pair e) ∙ two.others pair e;
 }
 
 -- the answers of all readers, where those of one reader were added
-pub answers_of_reader : (old new : BTreeMap Guid (Groups Guid Answer)) (reader : Guid) (lent now empty : Groups Guid Answer) (value : Option (Groups Guid Answer)) (placed : List PlacedValue)
-    → ((writer : Guid) → values_at guid_cmp empty.map writer ≡ []) → value ≡ get guid_cmp old reader → lent ≡ unwrap_or value empty
-    → Updates guid_cmp old new reader (Some now) → AddsAnswersOf reader lent.map now.map placed → AddsAnswers old new placed
+pub answers_of_reader : (old new : BTreeMap Guid (Groups Guid Answer)) (reader : Guid) (lent now empty : Groups Guid Answer) (value : Option (Groups Guid Answer)) (placed : List placed_spec.PlacedValue)
+    → ((writer : Guid) → placed_spec.values_at guid_order.guid_cmp empty.map writer ≡ []) → value ≡ get guid_order.guid_cmp old reader → lent ≡ unwrap_or value empty
+    → Updates guid_order.guid_cmp old new reader (Some now) → placed_spec.AddsAnswersOf reader lent.map now.map placed → placed_spec.AddsAnswers old new placed
 answers_of_reader old new reader lent now empty value placed none same is updates more = λ pair.
-    entry_grown guids_total (λ found. answers_to found pair.writer) old new reader pair.reader now (answers_among pair placed) updates (λ e. more.own pair e ∙ ap (λ l. l ++ answers_among pair placed) (lent_answers pair.writer _ _ _ _ (none pair.writer) same is))
-    ∙ ap (λ l. answers_to (get guid_cmp old pair.reader) pair.writer ++ l) (by_test (is_eq (guid_cmp pair.reader reader)) (more.others pair))
+    entry_grown guids_total (λ found. placed_spec.answers_to found pair.writer) old new reader pair.reader now (placed_spec.answers_among pair placed) updates (λ e. more.own pair e ∙ ap (λ l. l ++ placed_spec.answers_among pair placed) (lent_answers pair.writer _ _ _ _ (none pair.writer) same is))
+    ∙ ap (λ l. placed_spec.answers_to (get guid_order.guid_cmp old pair.reader) pair.writer ++ l) (by_test (is_eq (guid_order.guid_cmp pair.reader reader)) (more.others pair))
   where
     by_test : {xs : List Answer} (b : Bool) → (b ≡ false → xs ≡ []) → cond b xs [] ≡ xs
     by_test true f = refl
@@ -224,8 +223,8 @@ one_between xs i x lt at = ap (λ n. take n (drop i xs)) one ∙ ap (take 1) (dr
     one : i + 1 - i ≡ 1
     one = omega arith
 
-pub placed_up_to : (datagram : ℕ) (acts : List Spoken) (start end : ℕ) → start ≤ end → placed_at datagram (map spoken_value (take end acts)) ≡ placed_at datagram (map spoken_value (take start acts)) ++ placed_at datagram (map spoken_value (slice_range acts start end))
-placed_up_to datagram acts start end le = ap (λ l. placed_at datagram (map spoken_value l)) (sym (sym (take-add start (end - start) acts) ∙ ap (λ n. take n acts) whole)) ∙ placed_both datagram (take start acts) (slice_range acts start end)
+pub placed_up_to : (datagram : ℕ) (acts : List Spoken) (start end : ℕ) → start ≤ end → placed_spec.placed_at datagram (map values.spoken_value (take end acts)) ≡ placed_spec.placed_at datagram (map values.spoken_value (take start acts)) ++ placed_spec.placed_at datagram (map values.spoken_value (slice_range acts start end))
+placed_up_to datagram acts start end le = ap (λ l. placed_spec.placed_at datagram (map values.spoken_value l)) (sym (sym (take-add start (end - start) acts) ∙ ap (λ n. take n acts) whole)) ∙ placed_both datagram (take start acts) (slice_range acts start end)
   where
     whole : start + (end - start) ≡ end
     whole = omega arith

@@ -6,15 +6,15 @@ use Rattle.std.proofs.lemmas.Bool.{cases_lt}
 use Rattle.std.proofs.lemmas.Bool.Decides.{nat_tests}
 use Rattle.std.proofs.lemmas.List.{take-append-drop, take_more}
 use Rattle.std.proofs.lemmas.List.Elements.{filter-append}
-use Rattle.rtps_wire.specs.Reading.{reading_of}
+use Rattle.rtps_wire.specs.Reading as reading
 use Rattle.rtps_discovery.specs.declared.matching.Pair.{Pair}
-use Rattle.rtps_receiver.specs.Acts.{acts_of}
-use Rattle.rtps_receiver.specs.Values.{ActValue}
-use Rattle.rtps_audit.specs.Placed.{PlacedValue, answer_at, answers_among, placed_at, placed_behind, placed_in, placed_value}
-use Rattle.rtps_audit.specs.Delivered.{IsExactVerdictFrom}
-use Rattle.rtps_audit.specs.Laws.{FirstDatagramsDecide}
-use Rattle.rtps_audit.specs.Said.{FirstDatagramsSayTheSame, datagrams_until}
-use Rattle.rtps_audit.specs.Speech.{acts_by_datagram, base_for, speech_by, speech_of}
+use Rattle.rtps_receiver.specs.Acts as acts
+use Rattle.rtps_receiver.specs.Values as values
+use Rattle.rtps_audit.specs.Placed as placed_spec
+use Rattle.rtps_audit.specs.Delivered as delivered
+use Rattle.rtps_audit.specs.Laws as laws
+use Rattle.rtps_audit.specs.Said as said
+use Rattle.rtps_audit.specs.Speech as speech
 use Rattle.rtps_audit.specs.declared.answer.Answer.{Answer}
 use Rattle.rtps_audit.specs.declared.placed.Placed.{Placed}
 use Rattle.rtps_audit.proofs.PlacedActs.{answers_in_order, kept_in_order}
@@ -79,88 +79,88 @@ filter_swap {X} one other (x ∷ xs) = by (one x) (other x) refl refl (filter_sw
 
 -- ---- the acts of the first datagrams
 
-all_before : (d datagram : ℕ) (acts : List ActValue) → datagram < d → filter (λ (placed : PlacedValue). nat_lt placed.datagram d) (placed_at datagram acts) ≡ placed_at datagram acts
+all_before : (d datagram : ℕ) (acts : List values.ActValue) → datagram < d → filter (λ (placed : placed_spec.PlacedValue). nat_lt placed.datagram d) (placed_spec.placed_at datagram acts) ≡ placed_spec.placed_at datagram acts
 all_before d datagram [] lt = refl
 all_before d datagram (act ∷ acts) lt =
     let yes : nat_lt datagram d ≡ true = grind (arith, nat_tests) in
-    let x : PlacedValue = record { datagram = datagram; act = act } in
-    ap (λ b. cond b (x ∷ filter (λ (placed : PlacedValue). nat_lt placed.datagram d) (placed_at datagram acts)) (filter (λ (placed : PlacedValue). nat_lt placed.datagram d) (placed_at datagram acts))) yes ∙ ap (λ l. x ∷ l) (all_before d datagram acts lt)
+    let x : placed_spec.PlacedValue = record { datagram = datagram; act = act } in
+    ap (λ b. cond b (x ∷ filter (λ (placed : placed_spec.PlacedValue). nat_lt placed.datagram d) (placed_spec.placed_at datagram acts)) (filter (λ (placed : placed_spec.PlacedValue). nat_lt placed.datagram d) (placed_spec.placed_at datagram acts))) yes ∙ ap (λ l. x ∷ l) (all_before d datagram acts lt)
 
-at_least : (low datagram : ℕ) (acts : List ActValue) (xs : List PlacedValue) → low ≤ datagram → ((i : ℕ) (e : PlacedValue) → i < length xs → low ≤ (get_or xs i e).datagram)
-    → (i : ℕ) (e : PlacedValue) → i < length (placed_at datagram acts ++ xs) → low ≤ (get_or (placed_at datagram acts ++ xs) i e).datagram
+at_least : (low datagram : ℕ) (acts : List values.ActValue) (xs : List placed_spec.PlacedValue) → low ≤ datagram → ((i : ℕ) (e : placed_spec.PlacedValue) → i < length xs → low ≤ (get_or xs i e).datagram)
+    → (i : ℕ) (e : placed_spec.PlacedValue) → i < length (placed_spec.placed_at datagram acts ++ xs) → low ≤ (get_or (placed_spec.placed_at datagram acts ++ xs) i e).datagram
 at_least low datagram [] xs le all i e lt = all i e lt
 at_least low datagram (act ∷ acts) xs le all zero e lt = le
 at_least low datagram (act ∷ acts) xs le all (suc i) e lt = at_least low datagram acts xs le all i e (omega arith)
 
 -- no act stands before the first datagram
-none_earlier : (low before : ℕ) (recording : List (List ActValue)) → low ≤ before + 1 → (i : ℕ) (e : PlacedValue) → i < length (placed_behind before recording) → low ≤ (get_or (placed_behind before recording) i e).datagram
+none_earlier : (low before : ℕ) (recording : List (List values.ActValue)) → low ≤ before + 1 → (i : ℕ) (e : placed_spec.PlacedValue) → i < length (placed_spec.placed_behind before recording) → low ≤ (get_or (placed_spec.placed_behind before recording) i e).datagram
 none_earlier low before [] le i e lt = absurd (omega arith)
-none_earlier low before (acts ∷ recording) le i e lt = at_least low (before + 1) acts (placed_behind (before + 1) recording) le (none_earlier low (before + 1) recording (omega arith)) i e lt
+none_earlier low before (acts ∷ recording) le i e lt = at_least low (before + 1) acts (placed_spec.placed_behind (before + 1) recording) le (none_earlier low (before + 1) recording (omega arith)) i e lt
 
-first_datagrams : (d low : ℕ) (recording : List (List ActValue)) → filter (λ (placed : PlacedValue). nat_lt placed.datagram d) (placed_behind low recording) ≡ placed_behind low (take (d - 1 - low) recording)
+first_datagrams : (d low : ℕ) (recording : List (List values.ActValue)) → filter (λ (placed : placed_spec.PlacedValue). nat_lt placed.datagram d) (placed_spec.placed_behind low recording) ≡ placed_spec.placed_behind low (take (d - 1 - low) recording)
 first_datagrams d low [] = none (d - 1 - low)
   where
-    none : (n : ℕ) → [] ≡ placed_behind low (take n [])
+    none : (n : ℕ) → [] ≡ placed_spec.placed_behind low (take n [])
     none zero = refl
     none (suc n) = refl
 first_datagrams d low (acts ∷ recording) = elim (cases_lt (low + 1) d) [
   | inl lt ↦
       let more : d - 1 - low ≡ suc (d - 1 - (low + 1)) = omega arith in
-      filter-append (λ (placed : PlacedValue). nat_lt placed.datagram d) (placed_at (low + 1) acts) (placed_behind (low + 1) recording)
-      ∙ ap (λ l. l ++ filter (λ (placed : PlacedValue). nat_lt placed.datagram d) (placed_behind (low + 1) recording)) (all_before d (low + 1) acts lt)
-      ∙ ap (λ l. placed_at (low + 1) acts ++ l) (first_datagrams d (low + 1) recording)
-      ∙ sym (ap (λ n. placed_behind low (take n (acts ∷ recording))) more)
+      filter-append (λ (placed : placed_spec.PlacedValue). nat_lt placed.datagram d) (placed_spec.placed_at (low + 1) acts) (placed_spec.placed_behind (low + 1) recording)
+      ∙ ap (λ l. l ++ filter (λ (placed : placed_spec.PlacedValue). nat_lt placed.datagram d) (placed_spec.placed_behind (low + 1) recording)) (all_before d (low + 1) acts lt)
+      ∙ ap (λ l. placed_spec.placed_at (low + 1) acts ++ l) (first_datagrams d (low + 1) recording)
+      ∙ sym (ap (λ n. placed_spec.placed_behind low (take n (acts ∷ recording))) more)
   | inr ge ↦
       let none : d - 1 - low ≡ 0 = omega arith in
-      none_kept (λ (placed : PlacedValue). placed.datagram) d (placed_behind low (acts ∷ recording)) (none_earlier d low (acts ∷ recording) ge)
-      ∙ sym (ap (λ n. placed_behind low (take n (acts ∷ recording))) none)
+      none_kept (λ (placed : placed_spec.PlacedValue). placed.datagram) d (placed_spec.placed_behind low (acts ∷ recording)) (none_earlier d low (acts ∷ recording) ge)
+      ∙ sym (ap (λ n. placed_spec.placed_behind low (take n (acts ∷ recording))) none)
 ]
 
 -- behind no datagram
-first_of_all : (d : ℕ) (recording : List (List ActValue)) → filter (λ (placed : PlacedValue). nat_lt placed.datagram d) (placed_in recording) ≡ placed_in (take (d - 1) recording)
-first_of_all d recording = first_datagrams d 0 recording ∙ (let same : d - 1 - 0 ≡ d - 1 = omega arith in ap (λ n. placed_in (take n recording)) same)
+first_of_all : (d : ℕ) (recording : List (List values.ActValue)) → filter (λ (placed : placed_spec.PlacedValue). nat_lt placed.datagram d) (placed_spec.placed_in recording) ≡ placed_spec.placed_in (take (d - 1) recording)
+first_of_all d recording = first_datagrams d 0 recording ∙ (let same : d - 1 - 0 ≡ d - 1 = omega arith in ap (λ n. placed_spec.placed_in (take n recording)) same)
 
-answers_first : (pair : Pair) (d : ℕ) (placed : List PlacedValue) → filter (λ (answer : Answer). nat_lt answer.datagram d) (answers_among pair placed) ≡ answers_among pair (filter (λ (at : PlacedValue). nat_lt at.datagram d) placed)
+answers_first : (pair : Pair) (d : ℕ) (placed : List placed_spec.PlacedValue) → filter (λ (answer : Answer). nat_lt answer.datagram d) (placed_spec.answers_among pair placed) ≡ placed_spec.answers_among pair (filter (λ (at : placed_spec.PlacedValue). nat_lt at.datagram d) placed)
 answers_first pair d [] = refl
-answers_first pair d (x ∷ xs) = by (nat_lt x.datagram d) (base_for pair.writer pair.reader x.act) refl refl (answers_first pair d xs)
+answers_first pair d (x ∷ xs) = by (nat_lt x.datagram d) (speech.base_for pair.writer pair.reader x.act) refl refl (answers_first pair d xs)
   where
     some : List Answer
-    some = filter (λ (answer : Answer). nat_lt answer.datagram d) (answers_among pair xs)
+    some = filter (λ (answer : Answer). nat_lt answer.datagram d) (placed_spec.answers_among pair xs)
 
-    rest : List PlacedValue
-    rest = filter (λ (at : PlacedValue). nat_lt at.datagram d) xs
+    rest : List placed_spec.PlacedValue
+    rest = filter (λ (at : placed_spec.PlacedValue). nat_lt at.datagram d) xs
 
-    by : (b : Bool) (base : Option ℕ) → nat_lt x.datagram d ≡ b → base_for pair.writer pair.reader x.act ≡ base → some ≡ answers_among pair rest
-        → filter (λ (answer : Answer). nat_lt answer.datagram d) (cons_option (answer_at x.datagram x.act.at base) (answers_among pair xs)) ≡ answers_among pair (cond b (x ∷ rest) rest)
-    by true None e f h = h ∙ sym (ap (λ o. cons_option (answer_at x.datagram x.act.at o) (answers_among pair rest)) f)
+    by : (b : Bool) (base : Option ℕ) → nat_lt x.datagram d ≡ b → speech.base_for pair.writer pair.reader x.act ≡ base → some ≡ placed_spec.answers_among pair rest
+        → filter (λ (answer : Answer). nat_lt answer.datagram d) (cons_option (placed_spec.answer_at x.datagram x.act.at base) (placed_spec.answers_among pair xs)) ≡ placed_spec.answers_among pair (cond b (x ∷ rest) rest)
+    by true None e f h = h ∙ sym (ap (λ o. cons_option (placed_spec.answer_at x.datagram x.act.at o) (placed_spec.answers_among pair rest)) f)
     by false None e f h = h
     by true (Some base) e f h =
         let answer : Answer = record { datagram = x.datagram; at = x.act.at; base = pos base } in
-        ap (λ c. cond c (cons_option (answer_at x.datagram x.act.at (Some base)) some) some) e
-        ∙ ap (λ l. cons_option (answer_at x.datagram x.act.at (Some base)) l) h
-        ∙ sym (ap (λ o. cons_option (answer_at x.datagram x.act.at o) (answers_among pair rest)) f)
-    by false (Some base) e f h = ap (λ c. cond c (cons_option (answer_at x.datagram x.act.at (Some base)) some) some) e ∙ h
+        ap (λ c. cond c (cons_option (placed_spec.answer_at x.datagram x.act.at (Some base)) some) some) e
+        ∙ ap (λ l. cons_option (placed_spec.answer_at x.datagram x.act.at (Some base)) l) h
+        ∙ sym (ap (λ o. cons_option (placed_spec.answer_at x.datagram x.act.at o) (placed_spec.answers_among pair rest)) f)
+    by false (Some base) e f h = ap (λ c. cond c (cons_option (placed_spec.answer_at x.datagram x.act.at (Some base)) some) some) e ∙ h
 
 -- ---- so the beginnings are what the first datagrams have
 
-pub acts_first : (keeps : PlacedValue → Bool) (d k : ℕ) (acts : List Placed) (recording : List (List ActValue)) → map placed_value acts ≡ filter keeps (placed_in recording)
+pub acts_first : (keeps : placed_spec.PlacedValue → Bool) (d k : ℕ) (acts : List Placed) (recording : List (List values.ActValue)) → map placed_spec.placed_value acts ≡ filter keeps (placed_spec.placed_in recording)
     → filter (λ (at : Placed). nat_lt at.datagram d) (take k acts) ≡ take k acts → ((e : Placed) → k < length acts → d ≤ (get_or acts k e).datagram)
-    → map placed_value (take k acts) ≡ filter keeps (placed_in (take (d - 1) recording))
+    → map placed_spec.placed_value (take k acts) ≡ filter keeps (placed_spec.placed_in (take (d - 1) recording))
 acts_first keeps d k acts recording are kept next =
-    ap (map placed_value) (beginning (λ (at : Placed). at.datagram) d k acts (kept_in_order recording keeps acts are) kept next)
-    ∙ map_filter placed_value (λ (at : PlacedValue). nat_lt at.datagram d) acts
-    ∙ ap (filter (λ (at : PlacedValue). nat_lt at.datagram d)) are
-    ∙ filter_swap (λ (at : PlacedValue). nat_lt at.datagram d) keeps (placed_in recording)
+    ap (map placed_spec.placed_value) (beginning (λ (at : Placed). at.datagram) d k acts (kept_in_order recording keeps acts are) kept next)
+    ∙ map_filter placed_spec.placed_value (λ (at : placed_spec.PlacedValue). nat_lt at.datagram d) acts
+    ∙ ap (filter (λ (at : placed_spec.PlacedValue). nat_lt at.datagram d)) are
+    ∙ filter_swap (λ (at : placed_spec.PlacedValue). nat_lt at.datagram d) keeps (placed_spec.placed_in recording)
     ∙ ap (filter keeps) (first_of_all d recording)
 
-pub answers_first_until : (pair : Pair) (d k : ℕ) (answers : List Answer) (recording : List (List ActValue)) → answers ≡ answers_among pair (placed_in recording)
+pub answers_first_until : (pair : Pair) (d k : ℕ) (answers : List Answer) (recording : List (List values.ActValue)) → answers ≡ placed_spec.answers_among pair (placed_spec.placed_in recording)
     → filter (λ (at : Answer). nat_lt at.datagram d) (take k answers) ≡ take k answers → ((e : Answer) → k < length answers → d ≤ (get_or answers k e).datagram)
-    → take k answers ≡ answers_among pair (placed_in (take (d - 1) recording))
+    → take k answers ≡ placed_spec.answers_among pair (placed_spec.placed_in (take (d - 1) recording))
 answers_first_until pair d k answers recording are kept next =
     beginning (λ (at : Answer). at.datagram) d k answers (subst (IsNonDecreasingBy (λ (at : Answer). at.datagram)) (sym are) (answers_in_order pair recording)) kept next
     ∙ ap (filter (λ (at : Answer). nat_lt at.datagram d)) are
-    ∙ answers_first pair d (placed_in recording)
-    ∙ ap (answers_among pair) (first_of_all d recording)
+    ∙ answers_first pair d (placed_spec.placed_in recording)
+    ∙ ap (placed_spec.answers_among pair) (first_of_all d recording)
 
 -- ---- of octets
 
@@ -169,12 +169,12 @@ take_mapped f zero xs = refl
 take_mapped f (suc n) [] = refl
 take_mapped f (suc n) (x ∷ xs) = ap (λ l. f x ∷ l) (take_mapped f n xs)
 
-pub first_datagrams_say_the_same : FirstDatagramsSayTheSame
+pub first_datagrams_say_the_same : said.FirstDatagramsSayTheSame
 first_datagrams_say_the_same None recording = refl
-first_datagrams_say_the_same (Some datagram) recording = take_mapped (λ octets. acts_of (reading_of octets)) (datagram - 1) recording
+first_datagrams_say_the_same (Some datagram) recording = take_mapped (λ octets. acts.acts_of (reading.reading_of octets)) (datagram - 1) recording
 
-pub first_datagrams_decide : FirstDatagramsDecide
+pub first_datagrams_decide : laws.FirstDatagramsDecide
 first_datagrams_decide from writer reader until recording verdict =
-    let same : speech_by writer reader (datagrams_until until (acts_by_datagram recording)) ≡ speech_of writer reader (datagrams_until until recording) =
-    sym (ap (speech_by writer reader) (first_datagrams_say_the_same until recording)) in
-    (λ is. subst (λ speech. IsExactVerdictFrom from speech verdict) same is, λ is. subst (λ speech. IsExactVerdictFrom from speech verdict) (sym same) is)
+    let same : speech.speech_by writer reader (said.datagrams_until until (speech.acts_by_datagram recording)) ≡ speech.speech_of writer reader (said.datagrams_until until recording) =
+    sym (ap (speech.speech_by writer reader) (first_datagrams_say_the_same until recording)) in
+    (λ is. subst (λ speech. delivered.IsExactVerdictFrom from speech verdict) same is, λ is. subst (λ speech. delivered.IsExactVerdictFrom from speech verdict) (sym same) is)

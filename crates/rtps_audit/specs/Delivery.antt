@@ -3,11 +3,11 @@
 -- definition with a number `from` speaks of the writer's numbers from that one on, and of no smaller one; with 1 it speaks of
 -- all.
 use Rattle.std.specs.Prelude.{ℕ, suc, ◌<◌, ◌≤◌, ◌≡◌, ◌-◌, List, [], ◌∷◌, ◌++◌, length, max, Option, Some, slice_get, Contains, Bool, ◌&&◌, nat_le}
-use Rattle.rtps_wire.specs.Values.{PayloadValue}
+use Rattle.rtps_wire.specs.Values as values
 
 -- what a reader may be told of a number: its payload, or that it will not come
 pub data Word : Type 0 where
-  Told : (payload : PayloadValue) → Word
+  Told : (payload : values.PayloadValue) → Word
   Gone : Word
 
 -- what one datagram says of the writer and the reader. For each act: the words that it has for numbers, none where the

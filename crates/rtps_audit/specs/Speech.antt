@@ -4,50 +4,48 @@ use Rattle.std.specs.Prelude.{ℕ, ◌&&◌, if◌then◌else◌, List, map, Opt
 use Rattle.std.specs.List.{filter_map}
 use Rattle.std.specs.Option.{option_map}
 use Rattle.rtps_ids.specs.declared.identity.Guid.{Guid}
-use Rattle.rtps_wire.specs.Reading.{reading_of}
-use Rattle.rtps_receiver.specs.Acts.{acts_of}
-use Rattle.rtps_receiver.specs.Said.{SaidValue, is_at, said}
-use Rattle.rtps_receiver.specs.Speech.{is_answer, is_heard_by, is_spoken_by}
-use Rattle.rtps_receiver.specs.Values.{ActBodyValue, ActValue}
-use Rattle.rtps_receiver.specs.Values.ActBodyValue.{Data, Heartbeat, AckNack, Gap, DataFrag, NackFrag}
-use Rattle.rtps_audit.specs.Delivery.{Word, Datagram, Speech}
-use Rattle.rtps_audit.specs.Delivery.Word.{Told, Gone}
+use Rattle.rtps_wire.specs.Reading as reading
+use Rattle.rtps_receiver.specs.Acts as acts
+use Rattle.rtps_receiver.specs.Said as said
+use Rattle.rtps_receiver.specs.Speech as speech
+use Rattle.rtps_receiver.specs.Values as values
+use Rattle.rtps_audit.specs.Delivery as delivery
 
 -- what is said of a number from 1 on: that it will not come, or its payload
-abbrev pub word_in : SaidValue → ℕ → Option Word
-word_in value n = if value.gone n then Some Gone else if is_at n value.brought then option_map Told value.payload else None
+abbrev pub word_in : said.SaidValue → ℕ → Option delivery.Word
+word_in value n = if value.gone n then Some delivery.Word.Gone else if said.is_at n value.brought then option_map delivery.Word.Told value.payload else None
 
 -- what an act says of it. A DATA_FRAG says what its sample is, where that was put together
-abbrev pub word_of : ActBodyValue → ℕ → Option Word
-word_of body n = word_in (said body) n
+abbrev pub word_of : values.ActBodyValue → ℕ → Option delivery.Word
+word_of body n = word_in (said.said body) n
 
 -- for the reader, if it hears the act from the writer
-abbrev pub word_for : Guid → Guid → ActValue → ℕ → Option Word
-word_for writer reader act n = if is_spoken_by act writer && is_heard_by act reader then word_of act.body n else None
+abbrev pub word_for : Guid → Guid → values.ActValue → ℕ → Option delivery.Word
+word_for writer reader act n = if speech.is_spoken_by act writer && speech.is_heard_by act reader then word_of act.body n else None
 
 -- the base of an ACKNACK, by which the reader claims each number below it
-abbrev pub base_of_body : ActBodyValue → Option ℕ
-base_of_body (AckNack value) = Some value.set.base
-base_of_body (Data value) = None
-base_of_body (Heartbeat value) = None
-base_of_body (Gap value) = None
-base_of_body (DataFrag value) = None
-base_of_body (NackFrag value) = None
+abbrev pub base_of_body : values.ActBodyValue → Option ℕ
+base_of_body (values.ActBodyValue.AckNack value) = Some value.set.base
+base_of_body (values.ActBodyValue.Data value) = None
+base_of_body (values.ActBodyValue.Heartbeat value) = None
+base_of_body (values.ActBodyValue.Gap value) = None
+base_of_body (values.ActBodyValue.DataFrag value) = None
+base_of_body (values.ActBodyValue.NackFrag value) = None
 
 -- the base of an answer of this reader to this writer
-abbrev pub base_for : Guid → Guid → ActValue → Option ℕ
-base_for writer reader act = if is_answer act reader writer then base_of_body act.body else None
+abbrev pub base_for : Guid → Guid → values.ActValue → Option ℕ
+base_for writer reader act = if speech.is_answer act reader writer then base_of_body act.body else None
 
 -- the number that the writer announces by an act, whoever hears it
-abbrev pub announced_of_body : ActBodyValue → Option ℕ
-announced_of_body body = (said body).announced
+abbrev pub announced_of_body : values.ActBodyValue → Option ℕ
+announced_of_body body = (said.said body).announced
 
 -- the number that an act announces, where this writer speaks it
-abbrev pub announced_for : Guid → ActValue → Option ℕ
-announced_for writer act = if is_spoken_by act writer then announced_of_body act.body else None
+abbrev pub announced_for : Guid → values.ActValue → Option ℕ
+announced_for writer act = if speech.is_spoken_by act writer then announced_of_body act.body else None
 
 -- what the acts of one datagram say of the writer and the reader
-abbrev pub said_by : Guid → Guid → List ActValue → Datagram
+abbrev pub said_by : Guid → Guid → List values.ActValue → delivery.Datagram
 said_by writer reader acts =
     record {
       acts = map (word_for writer reader) acts;
@@ -56,13 +54,13 @@ said_by writer reader acts =
     }
 
 -- what a recording says of them by its acts: those of each datagram, in the order of sending
-abbrev pub speech_by : Guid → Guid → List (List ActValue) → Speech
+abbrev pub speech_by : Guid → Guid → List (List values.ActValue) → delivery.Speech
 speech_by writer reader recording = map (said_by writer reader) recording
 
 -- the acts of datagrams of these octets
-abbrev pub acts_by_datagram : List (List ℕ) → List (List ActValue)
-acts_by_datagram datagrams = map (λ datagram. acts_of (reading_of datagram)) datagrams
+abbrev pub acts_by_datagram : List (List ℕ) → List (List values.ActValue)
+acts_by_datagram datagrams = map (λ datagram. acts.acts_of (reading.reading_of datagram)) datagrams
 
 -- what a recording says of them, which is the octets of its datagrams in the order of sending
-abbrev pub speech_of : Guid → Guid → List (List ℕ) → Speech
+abbrev pub speech_of : Guid → Guid → List (List ℕ) → delivery.Speech
 speech_of writer reader recording = speech_by writer reader (acts_by_datagram recording)

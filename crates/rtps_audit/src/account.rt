@@ -23,15 +23,15 @@ impl<C: Coverage> Account<C> {
     ghost use Rattle.std.specs.Prelude.{ℕ, ◌≡◌, ◌≤◌, ◌<◌, ◌++◌, ◌∷◌, [], true, List, IfOk, OnOk};
     ghost use Rattle.std.specs.List.{All};
     ghost use Rattle.rtps_ids.specs.declared.identity.Guid.{Guid as GuidValue};
-    ghost use Rattle.rtps_receiver.specs.Values.{spoken_value};
-    ghost use Rattle.rtps_audit.specs.Account.{ComesAgain, Hears, Stands};
-    ghost use Rattle.rtps_audit.specs.Placed.{PlacedValue};
+    ghost use Rattle.rtps_receiver.specs.Values as values;
+    ghost use Rattle.rtps_audit.specs.Account as account_spec;
+    ghost use Rattle.rtps_audit.specs.Placed as placed;
     ghost use Rattle.rtps_audit.specs.declared.answer.Answer.{Answer as AnswerValue};
 
     /// Before all datagrams. The numbers from `from` on are asked for.
     pub(crate) fn new(alloc: Global, pair: Pair, from: FirstAsked) -> Result<Self, Memory>
         ensures pair { IfOk result (λ account. account.pair ≡ pair) }
-        ensures stands { IfOk result (λ account. (writer : GuidValue) → Stands C.covered from writer [] [] account) }
+        ensures stands { IfOk result (λ account. (writer : GuidValue) → account_spec.Stands C.covered from writer [] [] account) }
     {
         let mut told = C::empty(alloc);
         add_range(&mut told, 1, from.get())?;
@@ -46,10 +46,10 @@ impl<C: Coverage> Account<C> {
     pub(crate) fn note(&mut self, answer: Answer)
         ensures pair { self.new.pair ≡ self.old.pair }
         ensures told { self.new.told ≡ self.old.told }
-        ensures stands { (from : ℕ) (writer : GuidValue) (placed : List PlacedValue) (answers : List AnswerValue)
+        ensures stands { (from : ℕ) (writer : GuidValue) (placed : List placed.PlacedValue) (answers : List AnswerValue)
             → 1 ≤ answer.datagram → All (λ at. at.datagram < answer.datagram) placed
-            → Stands C.covered from writer placed answers self.old
-            → Stands C.covered from writer placed (answers ++ answer ∷ []) self.new }
+            → account_spec.Stands C.covered from writer placed answers self.old
+            → account_spec.Stands C.covered from writer placed (answers ++ answer ∷ []) self.new }
     {
         let front = self.told.front();
         self.claims.note_answer(answer, front);
@@ -57,7 +57,7 @@ impl<C: Coverage> Account<C> {
 
     /// Whether an act has a payload of a number that the reader was told of.
     fn had_payload_of(&self, act: &Spoken<'_>) -> bool
-        ensures { (n : ℕ) → ComesAgain C.covered (spoken_value act.now) self.now n → result ≡ true }
+        ensures { (n : ℕ) → account_spec.ComesAgain C.covered (values.spoken_value act.now) self.now n → result ≡ true }
     {
         match act.said().told {
             Some(number) => self.told.covers(number.cast_signed()),
@@ -68,8 +68,8 @@ impl<C: Coverage> Account<C> {
     /// Tells the reader what an act of the writer says, if it hears it. The result is whether it is told the payload of a
     /// number that it was told of before. After `Memory` the account is of no use.
     pub(crate) fn hear(&mut self, act: &Spoken<'_>) -> Result<bool, Memory>
-        ensures heard { OnOk result (Hears C.covered (spoken_value act.now) self.old self.new) }
-        ensures again { IfOk result (λ again. (n : ℕ) → ComesAgain C.covered (spoken_value act.now) self.old n → again ≡ true) }
+        ensures heard { OnOk result (account_spec.Hears C.covered (values.spoken_value act.now) self.old self.new) }
+        ensures again { IfOk result (λ again. (n : ℕ) → account_spec.ComesAgain C.covered (values.spoken_value act.now) self.old n → again ≡ true) }
     {
         if !act.heard_by(self.pair.reader) {
             return Ok(false);

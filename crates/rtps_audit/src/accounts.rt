@@ -50,9 +50,9 @@ impl<C: Coverage> Accounts<C> {
     ghost use Rattle.std.specs.List.{All};
     ghost use Rattle.std.specs.List.Sorted.{IsNonDecreasingBy};
     ghost use Rattle.rtps_ids.specs.declared.identity.Guid.{Guid as GuidValue};
-    ghost use Rattle.rtps_receiver.specs.Values.{ActValue, spoken_value};
-    ghost use Rattle.rtps_audit.specs.Account.{AllHear, AllStand, AreRowsOf, AreSaid, ComesAgain, IsSince, TakesIn};
-    ghost use Rattle.rtps_audit.specs.Placed.{PlacedValue, placed_value};
+    ghost use Rattle.rtps_receiver.specs.Values as values;
+    ghost use Rattle.rtps_audit.specs.Account as account;
+    ghost use Rattle.rtps_audit.specs.Placed as placed_spec;
     ghost use Rattle.rtps_audit.specs.declared.account.Account.{Account as AccountValue};
     ghost use Rattle.rtps_audit.specs.declared.ask.Ask.{Ask as AskValue};
     ghost use Rattle.rtps_discovery.specs.declared.matching.Pair.{Pair as PairValue};
@@ -64,7 +64,7 @@ impl<C: Coverage> Accounts<C> {
         pairs: &[Pair],
         from: FirstAsked,
     ) -> Result<Self, Memory>
-        ensures { IfOk result (AllStand C.covered from writer pairs.now [] []) }
+        ensures { IfOk result (account.AllStand C.covered from writer pairs.now [] []) }
     {
         let mut accounts = Vec::with_capacity(alloc, pairs.len())?;
         for pair in pairs {
@@ -87,9 +87,9 @@ impl<C: Coverage> Accounts<C> {
         ensures from { self.new.from ≡ self.old.from }
         ensures set { self.new.again ≡ self.old.again }
         ensures last { self.new.last ≡ self.old.last }
-        ensures heard { OnOk result (AllHear C.covered (spoken_value act.now) self.old.accounts.items self.new.accounts.items) }
+        ensures heard { OnOk result (account.AllHear C.covered (values.spoken_value act.now) self.old.accounts.items self.new.accounts.items) }
         ensures again { IfOk result (λ again. (place : ℕ) (d : AccountValue C) (n : ℕ) → place < length self.old.accounts.items
-            → ComesAgain C.covered (spoken_value act.now) (slice_index_or self.old.accounts.items place d) n → again ≡ true) }
+            → account.ComesAgain C.covered (values.spoken_value act.now) (slice_index_or self.old.accounts.items place d) n → again ≡ true) }
     {
         let mut again = false;
         for place in 0..self.accounts.len() {
@@ -102,7 +102,7 @@ impl<C: Coverage> Accounts<C> {
 
     /// Takes in the next act of the writer. After `Memory` the accounts are of no use.
     fn hear(&mut self, act: &Spoken<'_>) -> Result<(), Memory>
-        ensures { OnOk result (TakesIn C.covered (spoken_value act.now) self.old self.new) }
+        ensures { OnOk result (account.TakesIn C.covered (values.spoken_value act.now) self.old self.new) }
     {
         self.last = self.last.max(announced_number(act, self.writer));
         if !self.tell(act)? {
@@ -117,10 +117,10 @@ impl<C: Coverage> Accounts<C> {
     /// Takes in the next acts of the writer. After `Memory` the accounts are of no use.
     fn hear_all(&mut self, acts: &[Placed<'_>]) -> Result<(), Memory>
         ensures counted { OnOk result (length self.new.accounts.items ≡ length self.old.accounts.items) }
-        ensures stand { OnOk result ((from since : ℕ) (writer : GuidValue) (pairs : List PairValue) (placed : List PlacedValue) (asks : List AskValue)
-            → All (IsSince writer since) acts.now → All (λ ask. ask.answer.datagram ≤ since) asks
-            → AllStand C.covered from writer pairs placed asks self.old
-            → AllStand C.covered from writer pairs (placed ++ map placed_value acts.now) asks self.new) }
+        ensures stand { OnOk result ((from since : ℕ) (writer : GuidValue) (pairs : List PairValue) (placed : List placed_spec.PlacedValue) (asks : List AskValue)
+            → All (account.IsSince writer since) acts.now → All (λ ask. ask.answer.datagram ≤ since) asks
+            → account.AllStand C.covered from writer pairs placed asks self.old
+            → account.AllStand C.covered from writer pairs (placed ++ map placed_spec.placed_value acts.now) asks self.new) }
     {
         for placed in acts {
             self.hear(&placed.act)?;
@@ -131,10 +131,10 @@ impl<C: Coverage> Accounts<C> {
     fn note(&mut self, ask: Ask)
         requires { ask.place < length self.old.accounts.items }
         ensures counted { length self.new.accounts.items ≡ length self.old.accounts.items }
-        ensures stand { (from : ℕ) (writer : GuidValue) (pairs : List PairValue) (placed : List PlacedValue) (asks : List AskValue)
+        ensures stand { (from : ℕ) (writer : GuidValue) (pairs : List PairValue) (placed : List placed_spec.PlacedValue) (asks : List AskValue)
             → 1 ≤ ask.answer.datagram → All (λ at. at.datagram < ask.answer.datagram) placed
-            → AllStand C.covered from writer pairs placed asks self.old
-            → AllStand C.covered from writer pairs placed (asks ++ ask ∷ []) self.new }
+            → account.AllStand C.covered from writer pairs placed asks self.old
+            → account.AllStand C.covered from writer pairs placed (asks ++ ask ∷ []) self.new }
     {
         self.accounts[ask.place].note(ask.answer);
     }
@@ -145,10 +145,10 @@ impl<C: Coverage> Accounts<C> {
         requires { All (λ ask. ask.place < length self.old.accounts.items) asks.now }
         ensures counted { OnOk result (length self.new.accounts.items ≡ length self.old.accounts.items) }
         ensures stand { OnOk result ((from : ℕ) (writer : GuidValue) (pairs : List PairValue)
-            → All (IsSince writer 0) acts.now → IsNonDecreasingBy (λ at. at.datagram) acts.now
+            → All (account.IsSince writer 0) acts.now → IsNonDecreasingBy (λ at. at.datagram) acts.now
             → All (λ ask. 1 ≤ ask.answer.datagram) asks.now → IsNonDecreasingBy (λ ask. ask.answer.datagram) asks.now
-            → AllStand C.covered from writer pairs [] [] self.old
-            → AllStand C.covered from writer pairs (map placed_value acts.now) asks.now self.new) }
+            → account.AllStand C.covered from writer pairs [] [] self.old
+            → account.AllStand C.covered from writer pairs (map placed_spec.placed_value acts.now) asks.now self.new) }
     {
         let mut place = 0;
         for ask in asks {
@@ -164,10 +164,10 @@ impl<C: Coverage> Accounts<C> {
     /// The rows of the pairs, where all that the writer and the readers said is taken in, and these are the acts of the writer.
     pub(crate) fn rows(&self, acts: &[Placed<'_>]) -> Result<Vec<Row>, Memory>
         ensures counted { IfOk result (λ rows. length rows.items ≡ length self.now.accounts.items) }
-        ensures rows { IfOk result (λ rows. (from : ℕ) (writer : GuidValue) (pairs : List PairValue) (asks : List AskValue) (recording : List (List ActValue))
-            → 1 ≤ from → AreSaid writer recording pairs acts.now asks
-            → AllStand C.covered from writer pairs (map placed_value acts.now) asks self.now
-            → AreRowsOf from recording pairs rows.items) }
+        ensures rows { IfOk result (λ rows. (from : ℕ) (writer : GuidValue) (pairs : List PairValue) (asks : List AskValue) (recording : List (List values.ActValue))
+            → 1 ≤ from → account.AreSaid writer recording pairs acts.now asks
+            → account.AllStand C.covered from writer pairs (map placed_spec.placed_value acts.now) asks self.now
+            → account.AreRowsOf from recording pairs rows.items) }
     {
         let questions = Questions {
             from: self.from,

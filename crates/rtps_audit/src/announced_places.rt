@@ -1,9 +1,9 @@
 ghost use Rattle.std.specs.Prelude.{◌≡◌, [], ◌∷◌, cond, map, Some, None, MatchOption, OnOk};
 ghost use Rattle.std.specs.Ordering.{is_eq};
 ghost use Rattle.rtps_ids.specs.declared.identity.Guid.{Guid as GuidValue};
-ghost use Rattle.rtps_discovery.specs.GuidOrder.{guid_cmp};
-ghost use Rattle.rtps_receiver.specs.Values.{spoken_value};
-ghost use Rattle.rtps_audit.specs.Placed.{AddsAnnounced, announced_of, placed_at};
+ghost use Rattle.rtps_discovery.specs.GuidOrder as guid_order;
+ghost use Rattle.rtps_receiver.specs.Values as values;
+ghost use Rattle.rtps_audit.specs.Placed as placed;
 
 use crate::groups::Groups;
 use rtps_discovery::announced_endpoint;
@@ -21,9 +21,9 @@ pub struct AnnouncedPlace {
 /// The GUID of the endpoint that an act of a datagram announces, and where. None where it announces none.
 fn announced_in(datagram: usize, act: &Spoken<'_>) -> Option<(Guid, AnnouncedPlace)>
     ensures { MatchOption result
-        ((guid : GuidValue) → announced_of guid (record { datagram = datagram; act = spoken_value act.now }) ≡ None)
-        (λ found. (guid : GuidValue) → announced_of guid (record { datagram = datagram; act = spoken_value act.now })
-        ≡ cond (is_eq (guid_cmp guid found.0)) (Some found.1) None) }
+        ((guid : GuidValue) → placed.announced_of guid (record { datagram = datagram; act = values.spoken_value act.now }) ≡ None)
+        (λ found. (guid : GuidValue) → placed.announced_of guid (record { datagram = datagram; act = values.spoken_value act.now })
+        ≡ cond (is_eq (guid_order.guid_cmp guid found.0)) (Some found.1) None) }
 {
     match announced_endpoint(act) {
         Some(endpoint) => {
@@ -43,7 +43,7 @@ fn note_place(
     datagram: usize,
     act: &Spoken<'_>,
 ) -> Result<(), Memory>
-    ensures { OnOk result (AddsAnnounced places.old.map places.new.map (placed_at datagram (spoken_value act.now ∷ []))) }
+    ensures { OnOk result (placed.AddsAnnounced places.old.map places.new.map (placed.placed_at datagram (values.spoken_value act.now ∷ []))) }
 {
     if let Some((guid, place)) = announced_in(datagram, act) {
         places.push(guid, place)?;
@@ -57,7 +57,7 @@ pub(crate) fn note_places(
     datagram: usize,
     acts: &[Spoken<'_>],
 ) -> Result<(), Memory>
-    ensures { OnOk result (AddsAnnounced places.old.map places.new.map (placed_at datagram (map spoken_value acts.now))) }
+    ensures { OnOk result (placed.AddsAnnounced places.old.map places.new.map (placed.placed_at datagram (map values.spoken_value acts.now))) }
 {
     for act in acts {
         note_place(places, datagram, act)?;

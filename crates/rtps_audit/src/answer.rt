@@ -1,12 +1,11 @@
-ghost use Rattle.std.specs.Prelude.{◌≡◌, ◌≤◌, ◌<◌, ◌+◌, [], ◌∷◌, cond, length, map, Some, None, All, IfOk, IfSome, MatchOption, OnOk};
+ghost use Rattle.std.specs.Prelude.{◌≡◌, ◌≤◌, ◌<◌, [], ◌∷◌, cond, length, map, Some, None, All, IfOk, IfSome, MatchOption, OnOk};
 ghost use Rattle.std.specs.List.{slice_range};
 ghost use Rattle.std.specs.Ordering.{is_eq};
-ghost use Rattle.rtps_ids.specs.declared.identity.Guid.{Guid as GuidValue};
-ghost use Rattle.rtps_receiver.specs.Speech.{origin_of};
-ghost use Rattle.rtps_discovery.specs.Listings.{pair_cmp};
+ghost use Rattle.rtps_receiver.specs.Speech as speech;
+ghost use Rattle.rtps_discovery.specs.Listings as listings;
 ghost use Rattle.rtps_discovery.specs.declared.matching.Pair.{Pair as PairValue};
-ghost use Rattle.rtps_receiver.specs.Values.{spoken_value};
-ghost use Rattle.rtps_audit.specs.Placed.{AddsAnswers, AddsAnswersOf, answer_of, placed_at};
+ghost use Rattle.rtps_receiver.specs.Values as values;
+ghost use Rattle.rtps_audit.specs.Placed as placed;
 
 use crate::groups::Groups;
 use crate::placed::run_end;
@@ -27,11 +26,11 @@ pub struct Answer {
 
 impl Answer {
     ghost use Rattle.std.specs.Prelude.{◌<◌, ◌^◌};
-    ghost use Rattle.rtps_receiver.specs.Said.{natural};
+    ghost use Rattle.rtps_receiver.specs.Said as said;
 
     /// The base as a number; 0 for one below it.
     pub fn natural_base(&self) -> u64
-        ensures value { result ≡ natural self.now.base }
+        ensures value { result ≡ said.natural self.now.base }
         ensures in_range { result < 2 ^ 63 }
     {
         self.base.max(0).cast_unsigned()
@@ -48,14 +47,11 @@ pub(crate) struct Answers {
 
 impl Answers {
     ghost use Rattle.std.specs.Prelude.{◌≡◌, [], map, All, OnOk};
-    ghost use Rattle.rtps_receiver.specs.Speech.{origin_of};
-    ghost use Rattle.rtps_receiver.specs.Values.{spoken_value};
     ghost use Rattle.rtps_discovery.specs.declared.matching.Pair.{Pair as PairValue};
-    ghost use Rattle.rtps_audit.specs.Placed.{AddsAnswers, answers_kept, placed_at};
 
     /// No answers.
     pub(crate) fn new(alloc: Global) -> Self
-        ensures { (pair : PairValue) → answers_kept result.readers pair ≡ [] }
+        ensures { (pair : PairValue) → placed.answers_kept result.readers pair ≡ [] }
     {
         Answers {
             readers: BTreeMap::new(alloc),
@@ -65,8 +61,8 @@ impl Answers {
 
     /// Adds the answers among acts of a reader in a datagram. After `Memory` the answers are of no use.
     fn note_run(&mut self, reader: Guid, datagram: usize, run: &[Spoken<'_>]) -> Result<(), Memory>
-        requires { All (λ act. origin_of (spoken_value act) ≡ reader) run.now }
-        ensures { OnOk result (AddsAnswers self.old.readers self.new.readers (placed_at datagram (map spoken_value run.now))) }
+        requires { All (λ act. speech.origin_of (values.spoken_value act) ≡ reader) run.now }
+        ensures { OnOk result (placed.AddsAnswers self.old.readers self.new.readers (placed.placed_at datagram (map values.spoken_value run.now))) }
     {
         let found = self
             .readers
@@ -78,7 +74,7 @@ impl Answers {
 
     /// The answers of a pair, in the order in which they came.
     pub(crate) fn of(&self, pair: Pair) -> &[Answer]
-        ensures { result.now ≡ answers_kept self.now.readers pair }
+        ensures { result.now ≡ placed.answers_kept self.now.readers pair }
     {
         match self.readers.get(&pair.reader) {
             Some(answers) => answers.of(pair.writer),
@@ -90,10 +86,10 @@ impl Answers {
 /// The answer that an act of a datagram is, and the pair that it is of. None where the act answers nobody.
 fn answer_in(datagram: usize, act: &Spoken<'_>) -> Option<(Pair, Answer)>
     ensures answer { MatchOption result
-        ((pair : PairValue) → answer_of pair (record { datagram = datagram; act = spoken_value act.now }) ≡ None)
-        (λ found. (pair : PairValue) → answer_of pair (record { datagram = datagram; act = spoken_value act.now })
-        ≡ cond (is_eq (pair_cmp pair found.0)) (Some found.1) None) }
-    ensures reader { IfSome result (λ found. found.0.reader ≡ origin_of (spoken_value act.now)) }
+        ((pair : PairValue) → placed.answer_of pair (record { datagram = datagram; act = values.spoken_value act.now }) ≡ None)
+        (λ found. (pair : PairValue) → placed.answer_of pair (record { datagram = datagram; act = values.spoken_value act.now })
+        ≡ cond (is_eq (listings.pair_cmp pair found.0)) (Some found.1) None) }
+    ensures reader { IfSome result (λ found. found.0.reader ≡ speech.origin_of (values.spoken_value act.now)) }
 {
     let SpokenBody::Act(ActBody::AckNack(ack_nack)) = &act.body else {
         return None;
@@ -116,8 +112,8 @@ fn note_answer(
     datagram: usize,
     act: &Spoken<'_>,
 ) -> Result<(), Memory>
-    ensures { OnOk result (AddsAnswersOf (origin_of (spoken_value act.now)) answers.old.map answers.new.map
-        (placed_at datagram (spoken_value act.now ∷ []))) }
+    ensures { OnOk result (placed.AddsAnswersOf (speech.origin_of (values.spoken_value act.now)) answers.old.map answers.new.map
+        (placed.placed_at datagram (values.spoken_value act.now ∷ []))) }
 {
     if let Some((pair, answer)) = answer_in(datagram, act) {
         answers.push(pair.writer, answer)?;
@@ -132,8 +128,8 @@ fn note_answers_of(
     datagram: usize,
     run: &[Spoken<'_>],
 ) -> Result<(), Memory>
-    requires { All (λ act. origin_of (spoken_value act) ≡ reader) run.now }
-    ensures { OnOk result (AddsAnswersOf reader answers.old.map answers.new.map (placed_at datagram (map spoken_value run.now))) }
+    requires { All (λ act. speech.origin_of (values.spoken_value act) ≡ reader) run.now }
+    ensures { OnOk result (placed.AddsAnswersOf reader answers.old.map answers.new.map (placed.placed_at datagram (map values.spoken_value run.now))) }
 {
     for act in run {
         note_answer(answers, datagram, act)?;
@@ -151,8 +147,8 @@ fn note_next(
 ) -> Result<usize, Memory>
     requires { start < length acts.now }
     ensures end { IfOk result (λ end. (start < end) × (end ≤ length acts.now)) }
-    ensures added { IfOk result (λ end. AddsAnswers answers.old.readers answers.new.readers
-        (placed_at datagram (map spoken_value (slice_range acts.now start end)))) }
+    ensures added { IfOk result (λ end. placed.AddsAnswers answers.old.readers answers.new.readers
+        (placed.placed_at datagram (map values.spoken_value (slice_range acts.now start end)))) }
 {
     let Some((pair, _)) = answer_in(datagram, &acts[start]) else {
         return Ok(start + 1);
@@ -169,7 +165,7 @@ pub(crate) fn note_answers(
     datagram: usize,
     acts: &[Spoken<'_>],
 ) -> Result<(), Memory>
-    ensures { OnOk result (AddsAnswers answers.old.readers answers.new.readers (placed_at datagram (map spoken_value acts.now))) }
+    ensures { OnOk result (placed.AddsAnswers answers.old.readers answers.new.readers (placed.placed_at datagram (map values.spoken_value acts.now))) }
 {
     let mut start = 0;
     'runs: while start < acts.len() {

@@ -13,9 +13,9 @@ pub(crate) struct Ask {
 impl Ask {
     ghost use Rattle.std.specs.Prelude.{◌≡◌, ◌<◌, ◌++◌, length, map, All, IfOk, OnOk};
     ghost use Rattle.std.specs.List.Sorted.{IsNonDecreasingBy};
-    ghost use Rattle.rtps_audit.specs.Index.{IsIndexBy};
-    ghost use Rattle.rtps_audit.specs.Intake.{Intake};
-    ghost use Rattle.rtps_audit.specs.Account.{AreAsksOf};
+    ghost use Rattle.rtps_audit.specs.Index as index_spec;
+    ghost use Rattle.rtps_audit.specs.Intake as intake;
+    ghost use Rattle.rtps_audit.specs.Account as account;
 
     /// Adds the answers of the pair at a place.
     pub(crate) fn push(asks: &mut Vec<Ask>, place: usize, answers: &[Answer]) -> Result<(), Memory>
@@ -32,7 +32,7 @@ impl Ask {
 
     /// The answers of these pairs in the order of their datagrams.
     pub(crate) fn all_of(index: &Index<'_>, pairs: &[Pair]) -> Result<Vec<Ask>, Memory>
-        ensures asks { (intake : Intake) → IsIndexBy intake index.now → IfOk result (λ asks. AreAsksOf intake.acts pairs.now asks.items) }
+        ensures asks { (intake : intake.Intake) → index_spec.IsIndexBy intake index.now → IfOk result (λ asks. account.AreAsksOf intake.acts pairs.now asks.items) }
         ensures within { IfOk result (λ asks. All (λ ask. ask.place < length pairs.now) asks.items) }
         ensures sorted { IfOk result (λ asks. IsNonDecreasingBy (λ ask. ask.answer.datagram) asks.items) }
     {

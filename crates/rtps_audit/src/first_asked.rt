@@ -1,4 +1,4 @@
-ghost use Rattle.std.specs.Prelude.{◌≡◌, ◌≤◌, ◌<◌, ◌^◌, ◌↔◌, IsSome, IfSome};
+ghost use Rattle.std.specs.Prelude.{◌≡◌, ◌≤◌, ◌^◌, ◌↔◌, IsSome, IfSome};
 
 use rtps_ids::SeqNum;
 use std::marker::Model;
@@ -14,7 +14,7 @@ pub struct FirstAsked {
 }
 
 impl Model for FirstAsked {
-    ghost use Rattle.std.specs.Prelude.{ℕ, ◌<◌, ◌≤◌, ◌^◌};
+    ghost use Rattle.std.specs.Prelude.{ℕ, ◌≤◌, ◌^◌};
 
     ghost Value = { ℕ };
 

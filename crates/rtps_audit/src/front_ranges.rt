@@ -1,5 +1,5 @@
 ghost use Rattle.std.specs.Prelude.{◌≡◌, ◌≤◌, ◌<◌, ◌^◌, false};
-ghost use Rattle.rtps_coverage.specs.MergedRanges.{covered_of};
+ghost use Rattle.rtps_coverage.specs.MergedRanges as merged_ranges;
 
 use rtps_coverage::{Coverage, MergedRanges};
 use rtps_ids::Memory;
@@ -13,20 +13,20 @@ pub(crate) struct FrontRanges {
     front: u64,
     beyond: MergedRanges,
     ghost front_in_range: { (1 ≤ front) × (front < 2 ^ 63) },
-    ghost front_outside: { covered_of beyond front ≡ false },
+    ghost front_outside: { merged_ranges.covered_of beyond front ≡ false },
 }
 
 impl FrontRanges {
-    ghost use Rattle.std.specs.Prelude.{ℕ, ◌≡◌, ◌≤◌, ◌<◌, ◌^◌, ◌&&◌, ◌||◌, nat_le, nat_lt, OnOk, OnErr};
-    ghost use Rattle.rtps_coverage.specs.Coverage.{IsSameSet};
-    ghost use Rattle.rtps_audit.specs.FrontRanges.{front_has};
+    ghost use Rattle.std.specs.Prelude.{ℕ, ◌≡◌, ◌<◌, ◌^◌, ◌&&◌, ◌||◌, nat_le, nat_lt, OnOk, OnErr};
+    ghost use Rattle.rtps_coverage.specs.Coverage as coverage;
+    ghost use Rattle.rtps_audit.specs.FrontRanges as front_ranges;
 
     /// Joins each number below this one, which is past the front. After `Memory` the set is the same.
     fn raise(&mut self, end: u64) -> Result<(), Memory>
         requires past { self.old.front < end }
         requires in_range { end < 2 ^ 63 }
-        ensures ok { OnOk result ((n : ℕ) → front_has self.new n ≡ (front_has self.old n || (nat_le 1 n && nat_lt n end))) }
-        ensures err { OnErr result (IsSameSet (front_has self.old) (front_has self.new)) }
+        ensures ok { OnOk result ((n : ℕ) → front_ranges.front_has self.new n ≡ (front_ranges.front_has self.old n || (nat_le 1 n && nat_lt n end))) }
+        ensures err { OnErr result (coverage.IsSameSet (front_ranges.front_has self.old) (front_ranges.front_has self.new)) }
     {
         if self.beyond.covers(end.cast_signed()) {
             self.beyond.add(1, end.cast_signed())?;
@@ -39,13 +39,11 @@ impl FrontRanges {
 }
 
 impl Coverage for FrontRanges {
-    ghost use Rattle.std.specs.Prelude.{ℕ, ◌≡◌, ◌≤ℤ◌, pos, false, OnOk, OnErr};
-    ghost use Rattle.rtps_coverage.specs.Coverage.{JoinsRange, IsFront, IsSameSet, has};
-    ghost use Rattle.rtps_audit.specs.FrontRanges.{front_has, front_has_in_range};
+    ghost use Rattle.rtps_audit.specs.FrontRanges as front_ranges;
 
-    ghost covered = { front_has };
+    ghost covered = { front_ranges.front_has };
 
-    ghost in_range = { front_has_in_range };
+    ghost in_range = { front_ranges.front_has_in_range };
 
     fn empty(alloc: Global) -> Self {
         FrontRanges {

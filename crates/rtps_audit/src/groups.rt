@@ -13,11 +13,11 @@ pub(crate) struct Groups<K: Ord, V> {
 }
 
 impl<K: Ord + Copy + Drop, V: Copy + Drop> Groups<K, V> {
-    ghost use Rattle.rtps_audit.specs.Placed.{values_at};
+    ghost use Rattle.rtps_audit.specs.Placed as placed;
 
     /// No values.
     pub(crate) fn new(alloc: Global) -> Self
-        ensures { (key : K) → values_at K.cmp result.map key ≡ [] }
+        ensures { (key : K) → placed.values_at K.cmp result.map key ≡ [] }
     {
         Groups {
             map: BTreeMap::new(alloc),
@@ -27,8 +27,8 @@ impl<K: Ord + Copy + Drop, V: Copy + Drop> Groups<K, V> {
 
     /// Appends a value to those of its key. After `Memory` the lists are of no use.
     pub(crate) fn push(&mut self, key: K, value: V) -> Result<(), Memory>
-        ensures { OnOk result ((other : K) → values_at K.cmp self.new.map other
-            ≡ values_at K.cmp self.old.map other ++ cond (is_eq (K.cmp other key)) (value ∷ []) []) }
+        ensures { OnOk result ((other : K) → placed.values_at K.cmp self.new.map other
+            ≡ placed.values_at K.cmp self.old.map other ++ cond (is_eq (K.cmp other key)) (value ∷ []) []) }
     {
         // Most lists are there, and an entry goes down the map twice.
         if let Some(found) = self.map.get_mut(&key) {
@@ -43,7 +43,7 @@ impl<K: Ord + Copy + Drop, V: Copy + Drop> Groups<K, V> {
 
     /// The values of a key, in the order in which they came.
     pub(crate) fn of(&self, key: K) -> &[V]
-        ensures { result.now ≡ values_at K.cmp self.now.map key }
+        ensures { result.now ≡ placed.values_at K.cmp self.now.map key }
     {
         match self.map.get(&key) {
             Some(values) => values,

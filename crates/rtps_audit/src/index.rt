@@ -1,13 +1,13 @@
 ghost use Rattle.std.specs.Prelude.{◌≡◌, ◌+◌, ◌<◌, ◌^◌, count_by, filter, map, IfOk, OnOk};
-ghost use Rattle.rtps_receiver.specs.Values.{spoken_value};
-ghost use Rattle.rtps_discovery.specs.Directory.{IsMapOf};
-ghost use Rattle.rtps_audit.specs.Delivered.{IsExactVerdict, IsExactVerdictFrom};
-ghost use Rattle.rtps_audit.specs.Index.{IsIndexBy, IsIndexOf};
-ghost use Rattle.rtps_audit.specs.Intake.{Intake, acts_together, intake_more, no_intake};
-ghost use Rattle.rtps_audit.specs.Placed.{announced_among, answers_among, is_from, placed_in, placed_value};
+ghost use Rattle.rtps_receiver.specs.Values as values;
+ghost use Rattle.rtps_discovery.specs.Directory as directory_spec;
+ghost use Rattle.rtps_audit.specs.Delivered as delivered;
+ghost use Rattle.rtps_audit.specs.Index as index;
+ghost use Rattle.rtps_audit.specs.Intake as intake_spec;
+ghost use Rattle.rtps_audit.specs.Placed as placed;
 ghost use Rattle.rtps_audit.specs.Report as report;
-ghost use Rattle.rtps_audit.specs.Said.{datagrams_until};
-ghost use Rattle.rtps_audit.specs.Speech.{speech_by};
+ghost use Rattle.rtps_audit.specs.Said as said;
+ghost use Rattle.rtps_audit.specs.Speech as speech;
 
 use crate::announced_places::{AnnouncedPlace, note_places};
 use crate::answer::{Answer, Answers, note_answers};
@@ -40,7 +40,7 @@ pub struct Index<'a> {
 impl<'a> Index<'a> {
     /// The index of no datagrams. It takes no memory.
     pub fn new(alloc: Global) -> Self
-        ensures { IsIndexBy no_intake result }
+        ensures { index.IsIndexBy intake_spec.no_intake result }
     {
         Index {
             acts: Groups::new(alloc),
@@ -62,8 +62,8 @@ impl<'a> Index<'a> {
         announcing: &[Spoken<'a>],
     ) -> Result<(), Memory>
         requires { self.old.tallies.datagrams + 1 < 2 ^ 64 }
-        ensures { OnOk result ((intake : Intake) → IsIndexBy intake self.old
-            → IsIndexBy (intake_more intake tally (map spoken_value acts.now) (map spoken_value announcing.now)) self.new) }
+        ensures { OnOk result ((intake : intake_spec.Intake) → index.IsIndexBy intake self.old
+            → index.IsIndexBy (intake_spec.intake_more intake tally (map values.spoken_value acts.now) (map values.spoken_value announcing.now)) self.new) }
     {
         let place = self.tallies.datagrams as usize + 1;
         note_acts(&mut self.acts, place, acts)?;
@@ -77,7 +77,7 @@ impl<'a> Index<'a> {
     /// The index of a recording, any datagrams in the order of sending. The octets of each are read once. `Memory` is
     /// answered where there is none for it.
     pub fn build(alloc: Global, recording: &[&'a [u8]]) -> Result<Index<'a>, Memory>
-        ensures { IfOk result (IsIndexOf (map (λ datagram. datagram.now) recording.now)) }
+        ensures { IfOk result (index.IsIndexOf (map (λ datagram. datagram.now) recording.now)) }
     {
         let mut index = Index::new(alloc);
         let mut walk = Walk::new(alloc);
@@ -91,16 +91,16 @@ impl<'a> Index<'a> {
     /// The acts from this GUID, by datagram and then by place: of a writer its DATA, HEARTBEAT, GAP and, in an index with
     /// samples, DATA_FRAG, of a reader its ACKNACK and, in an index with samples, NACK_FRAG. It takes no memory.
     pub fn acts_of(&self, origin: Guid) -> &[Placed<'a>]
-        ensures { (intake : Intake) → IsIndexBy intake self.now
-            → map placed_value result.now ≡ filter (is_from origin) (placed_in intake.acts) }
+        ensures { (intake : intake_spec.Intake) → index.IsIndexBy intake self.now
+            → map placed.placed_value result.now ≡ filter (placed.is_from origin) (placed.placed_in intake.acts) }
     {
         self.acts.of(origin)
     }
 
     /// The answers of a pair's reader to its writer, in the order of sending. It takes no memory.
     pub fn answers_of(&self, pair: Pair) -> &[Answer]
-        ensures { (intake : Intake) → IsIndexBy intake self.now
-            → result.now ≡ answers_among pair (placed_in intake.acts) }
+        ensures { (intake : intake_spec.Intake) → index.IsIndexBy intake self.now
+            → result.now ≡ placed.answers_among pair (placed.placed_in intake.acts) }
     {
         self.answers.of(pair)
     }
@@ -108,15 +108,15 @@ impl<'a> Index<'a> {
     /// Where the recording announces the endpoint of this GUID, as a writer or a reader, in the order of sending. It takes no
     /// memory.
     pub fn announced_at(&self, guid: Guid) -> &[AnnouncedPlace]
-        ensures { (intake : Intake) → IsIndexBy intake self.now
-            → result.now ≡ announced_among guid (placed_in intake.announcing) }
+        ensures { (intake : intake_spec.Intake) → index.IsIndexBy intake self.now
+            → result.now ≡ placed.announced_among guid (placed.placed_in intake.announcing) }
     {
         self.announced.of(guid)
     }
 
     /// What the recording announces. It takes no memory.
     pub fn directory(&self) -> &Directory<'a>
-        ensures { (intake : Intake) → IsIndexBy intake self.now → IsMapOf (acts_together intake.announcing) result.now }
+        ensures { (intake : intake_spec.Intake) → index.IsIndexBy intake self.now → directory_spec.IsMapOf (intake_spec.acts_together intake.announcing) result.now }
     {
         &self.directory
     }
@@ -125,8 +125,8 @@ impl<'a> Index<'a> {
     /// what the two said. Smaller numbers are not asked for, as of [`crate::judge_from`]. `Memory` is answered where what
     /// is kept of that cannot grow.
     pub fn judge_from(&self, pair: Pair, from: SeqNum) -> Result<Verdict, Memory>
-        ensures { (intake : Intake) → IsIndexBy intake self.now
-            → IfOk result (IsExactVerdictFrom from (speech_by pair.writer pair.reader intake.acts)) }
+        ensures { (intake : intake_spec.Intake) → index.IsIndexBy intake self.now
+            → IfOk result (delivered.IsExactVerdictFrom from (speech.speech_by pair.writer pair.reader intake.acts)) }
     {
         self.judge_until(pair, FirstAsked::of(from), None)
     }
@@ -139,16 +139,16 @@ impl<'a> Index<'a> {
         from: FirstAsked,
         until: Option<u64>,
     ) -> Result<Verdict, Memory>
-        ensures { (intake : Intake) → IsIndexBy intake self.now
-            → IfOk result (IsExactVerdictFrom from (speech_by pair.writer pair.reader (datagrams_until until intake.acts))) }
+        ensures { (intake : intake_spec.Intake) → index.IsIndexBy intake self.now
+            → IfOk result (delivered.IsExactVerdictFrom from (speech.speech_by pair.writer pair.reader (said.datagrams_until until intake.acts))) }
     {
         judge_said::<FrontRanges>(self.alloc, &Said::until(self, pair, until), pair, from)
     }
 
     /// Judges by all of the writer's numbers, as [`Index::judge_from`] does.
     pub fn judge(&self, pair: Pair) -> Result<Verdict, Memory>
-        ensures { (intake : Intake) → IsIndexBy intake self.now
-            → IfOk result (IsExactVerdict (speech_by pair.writer pair.reader intake.acts)) }
+        ensures { (intake : intake_spec.Intake) → index.IsIndexBy intake self.now
+            → IfOk result (delivered.IsExactVerdict (speech.speech_by pair.writer pair.reader intake.acts)) }
     {
         self.judge_from(pair, SeqNum::first())
     }
@@ -156,7 +156,7 @@ impl<'a> Index<'a> {
 
 /// Whether an act is an ACKNACK for everyone.
 fn is_undirected(act: &Spoken<'_>) -> bool
-    ensures { result ≡ report.is_undirected (spoken_value act.now) }
+    ensures { result ≡ report.is_undirected (values.spoken_value act.now) }
 {
     match &act.body {
         SpokenBody::Act(ActBody::AckNack(_)) => act.dest.is_none(),
@@ -170,7 +170,7 @@ fn is_undirected(act: &Spoken<'_>) -> bool
 
 /// How many ACKNACKs for everyone are among acts.
 fn undirected_among(acts: &[Spoken<'_>]) -> u64
-    ensures { result ≡ count_by report.is_undirected (map spoken_value acts.now) }
+    ensures { result ≡ count_by report.is_undirected (map values.spoken_value acts.now) }
 {
     let mut undirected = 0u64;
     for act in acts {

@@ -1,11 +1,11 @@
 ghost use Rattle.std.specs.Prelude.{◌≡◌, map, All, IfOk, List};
-ghost use Rattle.rtps_receiver.specs.Values.{ActValue};
-ghost use Rattle.rtps_audit.specs.Account.{AreRowsOf};
-ghost use Rattle.rtps_audit.specs.Delivered.{IsExactVerdict, IsExactVerdictFrom};
-ghost use Rattle.rtps_audit.specs.Index.{IsIndexBy};
-ghost use Rattle.rtps_audit.specs.Intake.{Intake};
-ghost use Rattle.rtps_audit.specs.Said.{IsSaid};
-ghost use Rattle.rtps_audit.specs.Speech.{speech_by, speech_of};
+ghost use Rattle.rtps_receiver.specs.Values as values;
+ghost use Rattle.rtps_audit.specs.Account as account;
+ghost use Rattle.rtps_audit.specs.Delivered as delivered;
+ghost use Rattle.rtps_audit.specs.Index as index_spec;
+ghost use Rattle.rtps_audit.specs.Intake as intake;
+ghost use Rattle.rtps_audit.specs.Said as said_spec;
+ghost use Rattle.rtps_audit.specs.Speech as speech;
 
 use crate::accounts::Accounts;
 use crate::ask::Ask;
@@ -29,7 +29,7 @@ pub(crate) fn rows_of_writer(
     from: SeqNum,
 ) -> Result<Vec<Row>, Memory>
     requires { All (λ pair. pair.writer ≡ writer) pairs.now }
-    ensures { (intake : Intake) → IsIndexBy intake index.now → IfOk result (λ rows. AreRowsOf from intake.acts pairs.now rows.items) }
+    ensures { (intake : intake.Intake) → index_spec.IsIndexBy intake index.now → IfOk result (λ rows. account.AreRowsOf from intake.acts pairs.now rows.items) }
 {
     let acts = index.acts_of(writer);
     let asks = Ask::all_of(index, pairs)?;
@@ -51,8 +51,8 @@ pub(crate) fn judge_said<C: Coverage>(
     pair: Pair,
     from: FirstAsked,
 ) -> Result<Verdict, Memory>
-    ensures { (recording : List (List ActValue)) → IsSaid pair recording said.now
-        → IfOk result (IsExactVerdictFrom from (speech_by pair.writer pair.reader recording)) }
+    ensures { (recording : List (List values.ActValue)) → said_spec.IsSaid pair recording said.now
+        → IfOk result (delivered.IsExactVerdictFrom from (speech.speech_by pair.writer pair.reader recording)) }
 {
     let mut asks = Vec::new(alloc);
     Ask::push(&mut asks, 0, said.answers)?;
@@ -72,8 +72,8 @@ pub fn judge_from<C: Coverage>(
     pair: Pair,
     from: SeqNum,
 ) -> Result<Verdict, Memory>
-    ensures { IfOk result (IsExactVerdictFrom from
-        (speech_of pair.writer pair.reader (map (λ datagram. datagram.now) recording.now))) }
+    ensures { IfOk result (delivered.IsExactVerdictFrom from
+        (speech.speech_of pair.writer pair.reader (map (λ datagram. datagram.now) recording.now))) }
 {
     let index = Index::build(alloc, recording)?;
     let said = Said::until(&index, pair, None);
@@ -86,16 +86,16 @@ pub fn judge_by<C: Coverage>(
     recording: &[&[u8]],
     pair: Pair,
 ) -> Result<Verdict, Memory>
-    ensures { IfOk result (IsExactVerdict
-        (speech_of pair.writer pair.reader (map (λ datagram. datagram.now) recording.now))) }
+    ensures { IfOk result (delivered.IsExactVerdict
+        (speech.speech_of pair.writer pair.reader (map (λ datagram. datagram.now) recording.now))) }
 {
     judge_from::<C>(alloc, recording, pair, SeqNum::first())
 }
 
 /// Judges by all of the writer's numbers, as [`judge_from`] does, with the covered numbers in merged ranges.
 pub fn judge(alloc: Global, recording: &[&[u8]], pair: Pair) -> Result<Verdict, Memory>
-    ensures { IfOk result (IsExactVerdict
-        (speech_of pair.writer pair.reader (map (λ datagram. datagram.now) recording.now))) }
+    ensures { IfOk result (delivered.IsExactVerdict
+        (speech.speech_of pair.writer pair.reader (map (λ datagram. datagram.now) recording.now))) }
 {
     judge_by::<MergedRanges>(alloc, recording, pair)
 }

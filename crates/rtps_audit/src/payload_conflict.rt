@@ -1,16 +1,15 @@
 ghost use Rattle.std.specs.Prelude.{ℕ, Bool, ◌≡◌, ◌≢◌, ◌<◌, ◌≤◌, ◌^◌, ◌↔◌, false, true, length, map, take, All, Contains, IfOk, IfSome, IsTrue, List, MatchOption, Some};
 ghost use Rattle.std.specs.List.{AllWithin, HoldsAt};
 ghost use Rattle.std.specs.List.Sorted.{IsNonDecreasingBy};
-ghost use Rattle.std.specs.Option.{ForSome};
 ghost use Rattle.rtps_ids.specs.declared.identity.Guid.{Guid as GuidValue};
-ghost use Rattle.rtps_receiver.specs.Values.{spoken_value};
-ghost use Rattle.rtps_wire.specs.Values.{PayloadValue, payload_value};
-ghost use Rattle.rtps_audit.specs.Delivery.{IsAsked, Word};
-ghost use Rattle.rtps_audit.specs.Answered.{HearsTwo};
-ghost use Rattle.rtps_audit.specs.PayloadConflict.{asks_for, AreConflictsAmong, AreSentIn, AreConflictsOf, IsAnother, IsInRange, IsSentBy, number_in};
-ghost use Rattle.rtps_audit.specs.Placed.{PlacedValue, is_from, placed_value};
-ghost use Rattle.rtps_audit.specs.RunVerdict.{IsLeast};
-ghost use Rattle.rtps_audit.specs.Speech.{word_of};
+ghost use Rattle.rtps_receiver.specs.Values as receiver_values;
+ghost use Rattle.rtps_wire.specs.Values as wire_values;
+ghost use Rattle.rtps_audit.specs.Delivery as delivery;
+ghost use Rattle.rtps_audit.specs.Answered as answered;
+ghost use Rattle.rtps_audit.specs.PayloadConflict as payload_conflict;
+ghost use Rattle.rtps_audit.specs.Placed as placed_spec;
+ghost use Rattle.rtps_audit.specs.RunVerdict as run_verdict;
+ghost use Rattle.rtps_audit.specs.Speech as speech;
 
 use crate::placed::Placed;
 use rtps_coverage::{Coverage, MergedRanges};
@@ -33,13 +32,13 @@ pub(crate) struct AddressedPayload<'x, 'a> {
 #[derive(Drop)]
 pub(crate) struct PayloadConflicts<'x, 'a> {
     pub(crate) payloads: Vec<AddressedPayload<'x, 'a>>,
-    ghost sorted: { IsNonDecreasingBy number_in payloads.items },
-    ghost in_range: { All IsInRange payloads.items },
+    ghost sorted: { IsNonDecreasingBy payload_conflict.number_in payloads.items },
+    ghost in_range: { All payload_conflict.IsInRange payloads.items },
 }
 
 /// Whether two payloads are equal in kind and octets.
 fn is_same_payload(one: Payload<'_>, other: Payload<'_>) -> bool
-    ensures { IsTrue result ↔ (payload_value one.entry ≡ payload_value other.entry) }
+    ensures { IsTrue result ↔ (wire_values.payload_value one.entry ≡ wire_values.payload_value other.entry) }
 {
     match (one, other) {
         (Payload::Absent, Payload::Absent) => true,
@@ -58,13 +57,11 @@ pub(crate) struct Questions<'q> {
 }
 
 impl<'q> Questions<'q> {
-    ghost use Rattle.rtps_audit.specs.PayloadConflict.{asks_for};
-
     /// Whether payloads of a number are compared.
     fn ask_for(&self, number: u64) -> bool
         requires positive { 1 ≤ number }
         requires in_range { number < 2 ^ 63 }
-        ensures { result ≡ asks_for self.now number }
+        ensures { result ≡ payload_conflict.asks_for self.now number }
     {
         if number < self.from {
             return false;
@@ -80,8 +77,8 @@ fn addressed<'x, 'a>(
     questions: Questions<'_>,
 ) -> Option<AddressedPayload<'x, 'a>>
     ensures { MatchOption result
-        ((n : ℕ) (x : PayloadValue) → asks_for questions.entry n ≡ true → word_of (spoken_value act.now).body n ≢ Some (Word.Told x))
-        (λ entry. IsSentBy (spoken_value act.now) entry × (asks_for questions.entry entry.number ≡ true) × IsInRange entry) }
+        ((n : ℕ) (x : wire_values.PayloadValue) → payload_conflict.asks_for questions.entry n ≡ true → speech.word_of (receiver_values.spoken_value act.now).body n ≢ Some (delivery.Word.Told x))
+        (λ entry. payload_conflict.IsSentBy (receiver_values.spoken_value act.now) entry × (payload_conflict.asks_for questions.entry entry.number ≡ true) × payload_conflict.IsInRange entry) }
 {
     let said = act.said();
     let number = said.told?;
@@ -104,8 +101,8 @@ fn collect<'x, 'a>(
     acts: &'x [Placed<'a>],
     questions: Questions<'_>,
 ) -> Result<Vec<AddressedPayload<'x, 'a>>, Memory>
-    ensures sent { IfOk result (λ entries. AreSentIn (asks_for questions.entry) (map placed_value acts.now) entries.items) }
-    ensures in_range { IfOk result (λ entries. All IsInRange entries.items) }
+    ensures sent { IfOk result (λ entries. payload_conflict.AreSentIn (payload_conflict.asks_for questions.entry) (map placed_spec.placed_value acts.now) entries.items) }
+    ensures in_range { IfOk result (λ entries. All payload_conflict.IsInRange entries.items) }
 {
     let mut entries = Vec::new(alloc);
     for place in 0..acts.len() {
@@ -134,9 +131,9 @@ fn run_end(entries: &[AddressedPayload<'_, '_>], start: usize, number: u64) -> u
 
 /// Whether one of these payloads is another one than this, which is the first of them. It is not compared with itself.
 fn has_other(entries: &[AddressedPayload<'_, '_>], payload: &Payload<'_>) -> bool
-    requires first { All (λ entry. payload_value entry.payload.now ≡ payload_value payload.now) (take 1 entries.now) }
-    ensures other { result ≡ true → (entry : AddressedPayload) × Contains entries.now entry × (payload_value entry.payload.now ≢ payload_value payload.now) }
-    ensures same { result ≡ false → All (λ entry. payload_value entry.payload.now ≡ payload_value payload.now) entries.now }
+    requires first { All (λ entry. wire_values.payload_value entry.payload.now ≡ wire_values.payload_value payload.now) (take 1 entries.now) }
+    ensures other { result ≡ true → (entry : AddressedPayload) × Contains entries.now entry × (wire_values.payload_value entry.payload.now ≢ wire_values.payload_value payload.now) }
+    ensures same { result ≡ false → All (λ entry. wire_values.payload_value entry.payload.now ≡ wire_values.payload_value payload.now) entries.now }
 {
     for place in 1..entries.len() {
         let other = entries[place];
@@ -149,7 +146,7 @@ fn has_other(entries: &[AddressedPayload<'_, '_>], payload: &Payload<'_>) -> boo
 
 /// Whether the payload that was heard before is another one for the same number.
 fn is_another(before: Option<AddressedPayload<'_, '_>>, here: AddressedPayload<'_, '_>) -> bool
-    ensures { IsTrue result ↔ IsAnother before.entry here.entry }
+    ensures { IsTrue result ↔ payload_conflict.IsAnother before.entry here.entry }
 {
     match before {
         Some(before) => {
@@ -162,9 +159,9 @@ fn is_another(before: Option<AddressedPayload<'_, '_>>, here: AddressedPayload<'
 impl<'x, 'a> PayloadConflicts<'x, 'a> {
     /// Of these, which are in the order of numbers: the runs of one number in which two payloads differ.
     fn among(alloc: Global, entries: &[AddressedPayload<'x, 'a>]) -> Result<Self, Memory>
-        requires sorted { IsNonDecreasingBy number_in entries.now }
-        requires in_range { All IsInRange entries.now }
-        ensures { IfOk result (λ conflicts. AreConflictsAmong entries.now conflicts.payloads.items) }
+        requires sorted { IsNonDecreasingBy payload_conflict.number_in entries.now }
+        requires in_range { All payload_conflict.IsInRange entries.now }
+        ensures { IfOk result (λ conflicts. payload_conflict.AreConflictsAmong entries.now conflicts.payloads.items) }
     {
         let mut payloads = Vec::new(alloc);
         let mut start = 0;
@@ -187,7 +184,7 @@ impl<'x, 'a> PayloadConflicts<'x, 'a> {
         acts: &'x [Placed<'a>],
         questions: Questions<'_>,
     ) -> Result<Self, Memory>
-        ensures { IfOk result (λ conflicts. AreConflictsOf (asks_for questions.entry) conflicts.payloads.items (map placed_value acts.now)) }
+        ensures { IfOk result (λ conflicts. payload_conflict.AreConflictsOf (payload_conflict.asks_for questions.entry) conflicts.payloads.items (map placed_spec.placed_value acts.now)) }
     {
         let mut entries = collect(alloc, acts, questions)?;
         entries.sort_by_key(|entry| entry.number)?;
@@ -198,10 +195,10 @@ impl<'x, 'a> PayloadConflicts<'x, 'a> {
     /// The least number for which a reader hears two different payloads. Each payload is compared with the one that the
     /// reader heard before, since where two of a number differ, two that follow one another do. It takes no memory.
     pub(crate) fn least_for(&self, reader: Guid) -> Option<u64>
-        ensures conflict { (from : ℕ) (wanted : ℕ → Bool) (writer : GuidValue) (placed : List PlacedValue)
-            → AreConflictsOf wanted self.now.payloads.items placed → All (λ at. is_from writer at ≡ true) placed
-            → ((n : ℕ) → wanted n ≡ true → IsAsked from n) → ((n : ℕ) → HearsTwo from writer reader placed n → wanted n ≡ true)
-            → MatchOption result ((n : ℕ) → ¬ HearsTwo from writer reader placed n) (IsLeast (HearsTwo from writer reader placed)) }
+        ensures conflict { (from : ℕ) (wanted : ℕ → Bool) (writer : GuidValue) (placed : List placed_spec.PlacedValue)
+            → payload_conflict.AreConflictsOf wanted self.now.payloads.items placed → All (λ at. placed_spec.is_from writer at ≡ true) placed
+            → ((n : ℕ) → wanted n ≡ true → delivery.IsAsked from n) → ((n : ℕ) → answered.HearsTwo from writer reader placed n → wanted n ≡ true)
+            → MatchOption result ((n : ℕ) → ¬ answered.HearsTwo from writer reader placed n) (run_verdict.IsLeast (answered.HearsTwo from writer reader placed)) }
         ensures in_range { IfSome result (λ n. (1 ≤ n) × (n < 2 ^ 63)) }
     {
         let mut before = None;

@@ -2,10 +2,10 @@ ghost use Rattle.std.specs.Prelude.{◌≡◌, ◌≤◌, ◌++◌, [], cond, le
 ghost use Rattle.std.specs.List.{AllWithin};
 ghost use Rattle.std.specs.Ordering.{is_eq};
 ghost use Rattle.rtps_ids.specs.declared.identity.Guid.{Guid as GuidValue};
-ghost use Rattle.rtps_receiver.specs.Speech.{origin_of};
-ghost use Rattle.rtps_receiver.specs.Values.{spoken_value};
-ghost use Rattle.rtps_discovery.specs.GuidOrder.{guid_cmp};
-ghost use Rattle.rtps_audit.specs.Placed.{AddsActs, placed_at, placed_value, values_at};
+ghost use Rattle.rtps_receiver.specs.Speech as speech;
+ghost use Rattle.rtps_receiver.specs.Values as values;
+ghost use Rattle.rtps_discovery.specs.GuidOrder as guid_order;
+ghost use Rattle.rtps_audit.specs.Placed as placed_spec;
 
 use crate::groups::Groups;
 use rtps_ids::{Guid, Memory};
@@ -22,7 +22,7 @@ pub struct Placed<'a> {
 /// A copy of an act, in its datagram.
 pub fn place<'a>(datagram: usize, act: &Spoken<'a>) -> Placed<'a>
     ensures datagram { result.datagram ≡ datagram }
-    ensures act { spoken_value result.act ≡ spoken_value act.now }
+    ensures act { values.spoken_value result.act ≡ values.spoken_value act.now }
 {
     Placed {
         datagram,
@@ -36,8 +36,8 @@ fn append_placed<'a>(
     datagram: usize,
     acts: &[Spoken<'a>],
 ) -> Result<(), Memory>
-    ensures { OnOk result (map placed_value placed.new.items
-        ≡ map placed_value placed.old.items ++ placed_at datagram (map spoken_value acts.now)) }
+    ensures { OnOk result (map placed_spec.placed_value placed.new.items
+        ≡ map placed_spec.placed_value placed.old.items ++ placed_spec.placed_at datagram (map values.spoken_value acts.now)) }
 {
     if placed.is_empty() {
         // Many lists stay at their first acts.
@@ -54,7 +54,7 @@ pub(crate) fn run_end(acts: &[Spoken<'_>], start: usize, origin: Guid) -> usize
     requires { start ≤ length acts.now }
     ensures onward { start ≤ result }
     ensures within { result ≤ length acts.now }
-    ensures run { AllWithin (λ act. origin_of (spoken_value act) ≡ origin) acts.now start result }
+    ensures run { AllWithin (λ act. speech.origin_of (values.spoken_value act) ≡ origin) acts.now start result }
 {
     for place in start..acts.len() {
         if acts[place].origin() != origin {
@@ -71,9 +71,9 @@ fn note_run<'a>(
     datagram: usize,
     run: &[Spoken<'a>],
 ) -> Result<(), Memory>
-    ensures { OnOk result ((other : GuidValue) → map placed_value (values_at guid_cmp origins.new.map other)
-        ≡ map placed_value (values_at guid_cmp origins.old.map other)
-        ++ cond (is_eq (guid_cmp other origin)) (placed_at datagram (map spoken_value run.now)) []) }
+    ensures { OnOk result ((other : GuidValue) → map placed_spec.placed_value (placed_spec.values_at guid_order.guid_cmp origins.new.map other)
+        ≡ map placed_spec.placed_value (placed_spec.values_at guid_order.guid_cmp origins.old.map other)
+        ++ cond (is_eq (guid_order.guid_cmp other origin)) (placed_spec.placed_at datagram (map values.spoken_value run.now)) []) }
 {
     if let Some(placed) = origins.map.get_mut(&origin) {
         append_placed(placed, datagram, run)?;
@@ -92,7 +92,7 @@ pub(crate) fn note_acts<'a>(
     datagram: usize,
     acts: &[Spoken<'a>],
 ) -> Result<(), Memory>
-    ensures { OnOk result (AddsActs origins.old.map origins.new.map (placed_at datagram (map spoken_value acts.now))) }
+    ensures { OnOk result (placed_spec.AddsActs origins.old.map origins.new.map (placed_spec.placed_at datagram (map values.spoken_value acts.now))) }
 {
     let mut start = 0;
     'runs: while start < acts.len() {

@@ -1,10 +1,9 @@
-ghost use Rattle.std.specs.Prelude.{◌≡◌, ◌<◌, ◌≤◌, length, map, IfOk};
+ghost use Rattle.std.specs.Prelude.{◌≡◌, ◌≤◌, length, map, IfOk};
 ghost use Rattle.std.specs.List.{AllWithin};
-ghost use Rattle.rtps_audit.specs.Delivered.{IsExactReport, IsExactReportFrom};
-ghost use Rattle.rtps_audit.specs.Index.{IsIndexBy};
+ghost use Rattle.rtps_audit.specs.Delivered as delivered;
 ghost use Rattle.rtps_audit.specs.Index as index_spec;
-ghost use Rattle.rtps_audit.specs.Intake.{Intake};
-ghost use Rattle.rtps_audit.specs.Account.{AreRowsOf};
+ghost use Rattle.rtps_audit.specs.Intake as intake;
+ghost use Rattle.rtps_audit.specs.Account as account;
 
 use crate::index::Index;
 use crate::judging::rows_of_writer;
@@ -89,7 +88,7 @@ fn rows_of<P: Watch>(
     from: SeqNum,
     watch: &mut P,
 ) -> Result<Vec<Row>, Memory>
-    ensures { (intake : Intake) → IsIndexBy intake index.now → IfOk result (λ rows. AreRowsOf from intake.acts pairs.now rows.items) }
+    ensures { (intake : intake.Intake) → index_spec.IsIndexBy intake index.now → IfOk result (λ rows. account.AreRowsOf from intake.acts pairs.now rows.items) }
 {
     let mut rows = Vec::new(index.alloc);
     let mut start = 0;
@@ -106,13 +105,10 @@ fn rows_of<P: Watch>(
 
 impl<'a> Index<'a> {
     ghost use Rattle.std.specs.Prelude.{IfOk};
-    ghost use Rattle.rtps_audit.specs.Delivered.{IsExactReportBy};
-    ghost use Rattle.rtps_audit.specs.Index.{IsIndexBy};
-    ghost use Rattle.rtps_audit.specs.Intake.{Intake};
 
     /// The report on what was taken in by the numbers from `from` on, as [`audit_from`] answers it. It tells how far it is.
     pub fn report_from<P: Watch>(&self, from: SeqNum, watch: &mut P) -> Result<Report, Memory>
-        ensures { (intake : Intake) → IsIndexBy intake self.now → IfOk result (IsExactReportBy from intake) }
+        ensures { (intake : intake.Intake) → index_spec.IsIndexBy intake self.now → IfOk result (delivered.IsExactReportBy from intake) }
     {
         let pairs = self.directory.pairs()?;
         let rows = rows_of(self, &pairs, from, watch)?;
@@ -144,7 +140,7 @@ pub fn audit_watched<P: Watch>(
     from: SeqNum,
     watch: &mut P,
 ) -> Result<Report, Memory>
-    ensures { IfOk result (IsExactReportFrom from (map (λ datagram. datagram.now) recording.now)) }
+    ensures { IfOk result (delivered.IsExactReportFrom from (map (λ datagram. datagram.now) recording.now)) }
 {
     let index = Index::build(alloc, recording)?;
     let report = index.report_from(from, watch)?;
@@ -158,7 +154,7 @@ pub fn audit_watched<P: Watch>(
 /// payload or told gone. Of the premises, the second speaks of numbers from `from` on alone: the reader acknowledges one
 /// of them only when it has a word for it.
 pub fn audit_from(alloc: Global, recording: &[&[u8]], from: SeqNum) -> Result<Report, Memory>
-    ensures { IfOk result (IsExactReportFrom from (map (λ datagram. datagram.now) recording.now)) }
+    ensures { IfOk result (delivered.IsExactReportFrom from (map (λ datagram. datagram.now) recording.now)) }
 {
     audit_watched(alloc, recording, from, &mut Unwatched)
 }
@@ -178,7 +174,7 @@ pub fn audit_from(alloc: Global, recording: &[&[u8]], from: SeqNum) -> Result<Re
 ///
 /// Nothing is assumed of the writer.
 pub fn audit(alloc: Global, recording: &[&[u8]]) -> Result<Report, Memory>
-    ensures { IfOk result (IsExactReport (map (λ datagram. datagram.now) recording.now)) }
+    ensures { IfOk result (delivered.IsExactReport (map (λ datagram. datagram.now) recording.now)) }
 {
     audit_from(alloc, recording, SeqNum::first())
 }

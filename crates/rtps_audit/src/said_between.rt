@@ -59,13 +59,13 @@ fn answers_before(answers: &[Answer], datagram: u64) -> usize
 }
 
 impl<'r, 'a> Said<'r, 'a> {
-    ghost use Rattle.rtps_audit.specs.Index.{IsIndexBy};
-    ghost use Rattle.rtps_audit.specs.Intake.{Intake};
-    ghost use Rattle.rtps_audit.specs.Said.{IsSaid, datagrams_until};
+    ghost use Rattle.rtps_audit.specs.Index as index_spec;
+    ghost use Rattle.rtps_audit.specs.Intake as intake;
+    ghost use Rattle.rtps_audit.specs.Said as said;
 
     /// What a pair said in the datagrams before this one, which is counted from 1; in all, where there is none. It takes no memory.
     pub fn until(index: &'r Index<'a>, pair: Pair, until: Option<u64>) -> Said<'r, 'a>
-        ensures { (intake : Intake) → IsIndexBy intake index.now → IsSaid pair (datagrams_until until intake.acts) result }
+        ensures { (intake : intake.Intake) → index_spec.IsIndexBy intake index.now → said.IsSaid pair (said.datagrams_until until intake.acts) result }
     {
         let acts = index.acts_of(pair.writer);
         let answers = index.answers_of(pair);

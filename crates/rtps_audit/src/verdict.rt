@@ -42,12 +42,12 @@ pub(crate) struct Claims {
 impl Claims {
     ghost use Rattle.std.specs.Prelude.{ℕ, ◌≡◌, ◌-◌, ◌≤◌, ◌<◌, ◌^◌, ◌∷◌, ◌++◌, [], max, List, None, IfSome};
     ghost use Rattle.rtps_ids.specs.declared.identity.Guid.{Guid as GuidValue};
-    ghost use Rattle.rtps_receiver.specs.Values.{ActValue};
-    ghost use Rattle.rtps_audit.specs.Answered.{FindsUntold, IsFrontBy, verdict_by};
-    ghost use Rattle.rtps_audit.specs.Placed.{PlacedValue};
-    ghost use Rattle.rtps_audit.specs.RunVerdict.{IsVerdictFrom};
-    ghost use Rattle.rtps_audit.specs.Speech.{speech_by};
-    ghost use Rattle.rtps_audit.specs.Account.{AreClaimsOf, IsAllKnown};
+    ghost use Rattle.rtps_receiver.specs.Values as values;
+    ghost use Rattle.rtps_audit.specs.Answered as answered;
+    ghost use Rattle.rtps_audit.specs.Placed as placed;
+    ghost use Rattle.rtps_audit.specs.RunVerdict as run_verdict;
+    ghost use Rattle.rtps_audit.specs.Speech as speech;
+    ghost use Rattle.rtps_audit.specs.Account as account;
     ghost use Rattle.rtps_audit.specs.declared.answer.Answer.{Answer as AnswerValue};
 
     /// Nothing is claimed. The numbers from `from` on are asked for.
@@ -69,7 +69,7 @@ impl Claims {
     fn note_base(&mut self, base: u64, datagram: u64, front: i64)
         requires { base < 2 ^ 63 }
         ensures from { self.new.from ≡ self.old.from }
-        ensures untold { FindsUntold self.old.untold self.new.untold datagram front base }
+        ensures untold { answered.FindsUntold self.old.untold self.new.untold datagram front base }
         ensures base { self.new.base ≡ max self.old.base base }
     {
         let is_first = match self.untold {
@@ -87,9 +87,9 @@ impl Claims {
 
     /// Notes an answer more. The front is the least number that no datagram before that of the answer tells.
     pub(crate) fn note_answer(&mut self, answer: Answer, front: i64)
-        ensures { (from : ℕ) (writer reader : GuidValue) (placed : List PlacedValue) (answers : List AnswerValue)
-            → IsFrontBy from writer reader placed (answer.datagram - 1) front → AreClaimsOf from writer reader placed answers self.old
-            → AreClaimsOf from writer reader placed (answers ++ answer ∷ []) self.new }
+        ensures { (from : ℕ) (writer reader : GuidValue) (placed : List placed.PlacedValue) (answers : List AnswerValue)
+            → answered.IsFrontBy from writer reader placed (answer.datagram - 1) front → account.AreClaimsOf from writer reader placed answers self.old
+            → account.AreClaimsOf from writer reader placed (answers ++ answer ∷ []) self.new }
     {
         self.note_base(answer.natural_base(), answer.datagram as u64, front);
     }
@@ -99,7 +99,7 @@ impl Claims {
     fn verdict(&self, conflict: Option<u64>, last: u64) -> Verdict
         requires conflict { IfSome conflict (λ n. n < 2 ^ 63) }
         requires last { last < 2 ^ 63 }
-        ensures { result ≡ verdict_by self.now.untold conflict self.now.base (max (self.now.from - 1) last) }
+        ensures { result ≡ answered.verdict_by self.now.untold conflict self.now.base (max (self.now.from - 1) last) }
     {
         let last = last.max(self.from - 1);
         if let Some(untold) = self.untold {
@@ -133,8 +133,8 @@ impl Claims {
         last: u64,
     ) -> Verdict
         requires { last < 2 ^ 63 }
-        ensures { (from : ℕ) (recording : List (List ActValue)) → 1 ≤ from → IsAllKnown from recording pair conflicts.now last self.now
-            → IsVerdictFrom from (speech_by pair.writer pair.reader recording) result }
+        ensures { (from : ℕ) (recording : List (List values.ActValue)) → 1 ≤ from → account.IsAllKnown from recording pair conflicts.now last self.now
+            → run_verdict.IsVerdictFrom from (speech.speech_by pair.writer pair.reader recording) result }
     {
         self.verdict(conflicts.least_for(pair.reader), last)
     }

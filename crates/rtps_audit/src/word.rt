@@ -1,8 +1,8 @@
 ghost use Rattle.std.specs.Prelude.{◌≡◌, ◌≤◌, ◌<◌, ◌^◌, ◌&&◌, nat_le, nat_lt, is_some, unwrap_or, OnOk};
-ghost use Rattle.rtps_receiver.specs.Said.{numbers_have};
-ghost use Rattle.rtps_receiver.specs.Values.{spoken_value};
-ghost use Rattle.rtps_coverage.specs.Coverage.{TellsMore};
-ghost use Rattle.rtps_audit.specs.Speech.{announced_for, word_of};
+ghost use Rattle.rtps_receiver.specs.Said as said;
+ghost use Rattle.rtps_receiver.specs.Values as values;
+ghost use Rattle.rtps_coverage.specs.Coverage as coverage;
+ghost use Rattle.rtps_audit.specs.Speech as speech;
 
 use rtps_coverage::Coverage;
 use rtps_ids::{Guid, Memory};
@@ -11,7 +11,7 @@ use rtps_receiver::{Numbers, Spoken};
 /// Adds the numbers that an act has a word for to a set. After `Memory` the set may have some of them.
 pub(crate) fn add_told<C: Coverage>(told: &mut C, act: &Spoken<'_>) -> Result<(), Memory>
     ensures { OnOk result
-        (TellsMore (C.covered told.old) (C.covered told.new) (λ n. is_some (word_of (spoken_value act.now).body n))) }
+        (coverage.TellsMore (C.covered told.old) (C.covered told.new) (λ n. is_some (speech.word_of (values.spoken_value act.now).body n))) }
 {
     let said = act.said();
     add_gone(told, &said.gone)?;
@@ -25,7 +25,7 @@ pub(crate) fn add_told<C: Coverage>(told: &mut C, act: &Spoken<'_>) -> Result<()
 pub(crate) fn add_range<C: Coverage>(told: &mut C, first: u64, end: u64) -> Result<(), Memory>
     requires positive { 1 ≤ first }
     requires in_range { end ≤ 2 ^ 63 }
-    ensures { OnOk result (TellsMore (C.covered told.old) (C.covered told.new) (λ n. nat_le first n && nat_lt n end)) }
+    ensures { OnOk result (coverage.TellsMore (C.covered told.old) (C.covered told.new) (λ n. nat_le first n && nat_lt n end)) }
 {
     if end <= first {
         return Ok(());
@@ -36,7 +36,7 @@ pub(crate) fn add_range<C: Coverage>(told: &mut C, first: u64, end: u64) -> Resu
 
 /// Adds the numbers that are gone, range by range.
 fn add_gone<C: Coverage>(told: &mut C, gone: &Numbers<'_>) -> Result<(), Memory>
-    ensures { OnOk result (TellsMore (C.covered told.old) (C.covered told.new) (numbers_have gone.now)) }
+    ensures { OnOk result (coverage.TellsMore (C.covered told.old) (C.covered told.new) (said.numbers_have gone.now)) }
 {
     let mut at = 0;
     'apart: while let Some(range) = gone.range_from(at) {
@@ -48,7 +48,7 @@ fn add_gone<C: Coverage>(told: &mut C, gone: &Numbers<'_>) -> Result<(), Memory>
 
 /// The number that the writer announces by an act, or 0.
 pub fn announced_number(act: &Spoken<'_>, writer: Guid) -> u64
-    ensures value { result ≡ unwrap_or (announced_for writer (spoken_value act.now)) 0 }
+    ensures value { result ≡ unwrap_or (speech.announced_for writer (values.spoken_value act.now)) 0 }
     ensures in_range { result < 2 ^ 63 }
 {
     if act.spoken_by(writer) {

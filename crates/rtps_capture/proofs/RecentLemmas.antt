@@ -9,8 +9,8 @@ use Rattle.std.specs.declared.cmp.Ordering.{Ordering}
 use Rattle.std.specs.declared.cmp.Ordering.TheVariants.{Equal, Greater, Less}
 use Rattle.std.proofs.lemmas.Bool.Decides.{nat_tests}
 use Rattle.std.proofs.lemmas.List.Sums.{prefix_len-le-length}
-use Rattle.rtps_capture.specs.Assembly.{Joined, fresh_making, taken_piece}
-use Rattle.rtps_capture.specs.Recent.{TakesFragment, TakesPiece, hosts_cmp, hosts_of, is_of, making_in, recent_in, recent_of, without}
+use Rattle.rtps_capture.specs.Assembly as assembly
+use Rattle.rtps_capture.specs.Recent as recent_spec
 use Rattle.rtps_capture.specs.declared.assembly.KeyedMaking.{KeyedMaking}
 use Rattle.rtps_capture.specs.declared.assembly.RecentMakings.{RecentMakings}
 use Rattle.rtps_capture.specs.declared.assembly.Taken.{Taken}
@@ -29,36 +29,36 @@ position_is test xs = by (nat_lt (position_or_len test xs) (length xs)) refl
     by true less = refl
     by false less = grind (arith, nat_tests, most)
 
-without_first : {X : Type 0} (test : X → Bool) (xs : List X) → without test xs ≡ remove xs (position_or_len test xs)
+without_first : {X : Type 0} (test : X → Bool) (xs : List X) → recent_spec.without test xs ≡ remove xs (position_or_len test xs)
 without_first test [] = refl
 without_first test (x ∷ xs) = by (test x) (without_first test xs)
   where
-    by : (here : Bool) → without test xs ≡ remove xs (position_or_len test xs)
-        → (if here then xs else x ∷ without test xs) ≡ remove (x ∷ xs) (cond (not here) (1 + position_or_len test xs) 0)
+    by : (here : Bool) → recent_spec.without test xs ≡ remove xs (position_or_len test xs)
+        → (if here then xs else x ∷ recent_spec.without test xs) ≡ remove (x ∷ xs) (cond (not here) (1 + position_or_len test xs) 0)
     by true rest = refl
     by false rest = ap (λ l. x ∷ l) rest ∙ ap (remove (x ∷ xs)) (let next : suc (position_or_len test xs) ≡ 1 + position_or_len test xs = omega arith in next)
 
-making_first : (identification : ℕ) (recent : List KeyedMaking) (d : KeyedMaking) → position_or_len (is_of identification) recent < length recent
-    → (slice_index_or recent (position_or_len (is_of identification) recent) d).making ≡ making_in recent identification
+making_first : (identification : ℕ) (recent : List KeyedMaking) (d : KeyedMaking) → position_or_len (recent_spec.is_of identification) recent < length recent
+    → (slice_index_or recent (position_or_len (recent_spec.is_of identification) recent) d).making ≡ recent_spec.making_in recent identification
 making_first identification [] d within = absurd (omega (arith, within))
-making_first identification (one ∷ recent) d within = by (is_of identification one) within (making_first identification recent d)
+making_first identification (one ∷ recent) d within = by (recent_spec.is_of identification one) within (making_first identification recent d)
   where
-    by : (here : Bool) → cond (not here) (1 + position_or_len (is_of identification) recent) 0 < length (one ∷ recent)
-        → (position_or_len (is_of identification) recent < length recent → (slice_index_or recent (position_or_len (is_of identification) recent) d).making ≡ making_in recent identification)
-        → (slice_index_or (one ∷ recent) (cond (not here) (1 + position_or_len (is_of identification) recent) 0) d).making ≡ (if here then one.making else making_in recent identification)
+    by : (here : Bool) → cond (not here) (1 + position_or_len (recent_spec.is_of identification) recent) 0 < length (one ∷ recent)
+        → (position_or_len (recent_spec.is_of identification) recent < length recent → (slice_index_or recent (position_or_len (recent_spec.is_of identification) recent) d).making ≡ recent_spec.making_in recent identification)
+        → (slice_index_or (one ∷ recent) (cond (not here) (1 + position_or_len (recent_spec.is_of identification) recent) 0) d).making ≡ (if here then one.making else recent_spec.making_in recent identification)
     by true less rest = refl
     by false less rest =
-        let first = position_or_len (is_of identification) recent in
+        let first = position_or_len (recent_spec.is_of identification) recent in
         ap (λ (n : ℕ). (slice_index_or (one ∷ recent) n d).making) (let next : 1 + first ≡ suc first = omega arith in next) ∙ rest (omega (arith, less))
 
-none_first : (identification : ℕ) (recent : List KeyedMaking) → length recent ≤ position_or_len (is_of identification) recent
-    → (fresh_making ≡ making_in recent identification) × (recent ≡ without (is_of identification) recent)
+none_first : (identification : ℕ) (recent : List KeyedMaking) → length recent ≤ position_or_len (recent_spec.is_of identification) recent
+    → (assembly.fresh_making ≡ recent_spec.making_in recent identification) × (recent ≡ recent_spec.without (recent_spec.is_of identification) recent)
 none_first identification [] past = (refl, refl)
-none_first identification (one ∷ recent) past = by (is_of identification one) past (none_first identification recent)
+none_first identification (one ∷ recent) past = by (recent_spec.is_of identification one) past (none_first identification recent)
   where
-    by : (here : Bool) → length (one ∷ recent) ≤ cond (not here) (1 + position_or_len (is_of identification) recent) 0
-        → (length recent ≤ position_or_len (is_of identification) recent → (fresh_making ≡ making_in recent identification) × (recent ≡ without (is_of identification) recent))
-        → (fresh_making ≡ (if here then one.making else making_in recent identification)) × (one ∷ recent ≡ (if here then recent else one ∷ without (is_of identification) recent))
+    by : (here : Bool) → length (one ∷ recent) ≤ cond (not here) (1 + position_or_len (recent_spec.is_of identification) recent) 0
+        → (length recent ≤ position_or_len (recent_spec.is_of identification) recent → (assembly.fresh_making ≡ recent_spec.making_in recent identification) × (recent ≡ recent_spec.without (recent_spec.is_of identification) recent))
+        → (assembly.fresh_making ≡ (if here then one.making else recent_spec.making_in recent identification)) × (one ∷ recent ≡ (if here then recent else one ∷ recent_spec.without (recent_spec.is_of identification) recent))
     by true less rest = absurd (omega (arith, less))
     by false less rest = let there = rest (omega (arith, less)) in (there.0, ap (λ l. one ∷ l) there.1)
 
@@ -70,70 +70,70 @@ not_within place n never = by (nat_lt place n) refl
     by false is = grind (arith, nat_tests)
 
 -- what is at the place of a key, and what is left without it
-pub one_out : (identification : ℕ) (recent : List KeyedMaking) (place : ℕ) (there : KeyedMaking) → place ≡ unwrap_or (position (is_of identification) recent) (length recent)
+pub one_out : (identification : ℕ) (recent : List KeyedMaking) (place : ℕ) (there : KeyedMaking) → place ≡ unwrap_or (position (recent_spec.is_of identification) recent) (length recent)
     → place < length recent → there ≡ slice_index_or recent place there
-    → (there.making ≡ making_in recent identification) × (remove recent place ≡ without (is_of identification) recent)
+    → (there.making ≡ recent_spec.making_in recent identification) × (remove recent place ≡ recent_spec.without (recent_spec.is_of identification) recent)
 one_out identification recent place there is within found =
-    let at : place ≡ position_or_len (is_of identification) recent = is ∙ position_is (is_of identification) recent in
-    let less : position_or_len (is_of identification) recent < length recent = subst (λ (n : ℕ). n < length recent) at within in
-    let same : (slice_index_or recent place there).making ≡ making_in recent identification =
+    let at : place ≡ position_or_len (recent_spec.is_of identification) recent = is ∙ position_is (recent_spec.is_of identification) recent in
+    let less : position_or_len (recent_spec.is_of identification) recent < length recent = subst (λ (n : ℕ). n < length recent) at within in
+    let same : (slice_index_or recent place there).making ≡ recent_spec.making_in recent identification =
     ap (λ (n : ℕ). (slice_index_or recent n there).making) at ∙ making_first identification recent there less in
-    (ap (λ (one : KeyedMaking). one.making) found ∙ same, ap (remove recent) at ∙ sym (without_first (is_of identification) recent))
+    (ap (λ (one : KeyedMaking). one.making) found ∙ same, ap (remove recent) at ∙ sym (without_first (recent_spec.is_of identification) recent))
 
-pub none_out : (identification : ℕ) (recent : List KeyedMaking) (place : ℕ) → place ≡ unwrap_or (position (is_of identification) recent) (length recent) → length recent ≤ place
-    → (fresh_making ≡ making_in recent identification) × (recent ≡ without (is_of identification) recent)
+pub none_out : (identification : ℕ) (recent : List KeyedMaking) (place : ℕ) → place ≡ unwrap_or (position (recent_spec.is_of identification) recent) (length recent) → length recent ≤ place
+    → (assembly.fresh_making ≡ recent_spec.making_in recent identification) × (recent ≡ recent_spec.without (recent_spec.is_of identification) recent)
 none_out identification recent place is past =
-    none_first identification recent (subst (λ (n : ℕ). length recent ≤ n) (is ∙ position_is (is_of identification) recent) past)
+    none_first identification recent (subst (λ (n : ℕ). length recent ≤ n) (is ∙ position_is (recent_spec.is_of identification) recent) past)
 
 -- what hosts have when some are put in
-recent_put : (old new : BTreeMap FragmentHosts RecentMakings) (hosts : FragmentHosts) (w : RecentMakings) → Updates hosts_cmp old new hosts (Some w) → (other : FragmentHosts)
-    → recent_of new other ≡ (if is_eq (hosts_cmp hosts other) then w.makings.items else recent_of old other)
-recent_put old new hosts w updates other = ap recent_in (updates.0 other) ∙ by (is_eq (hosts_cmp hosts other))
+recent_put : (old new : BTreeMap FragmentHosts RecentMakings) (hosts : FragmentHosts) (w : RecentMakings) → Updates recent_spec.hosts_cmp old new hosts (Some w) → (other : FragmentHosts)
+    → recent_spec.recent_of new other ≡ (if is_eq (recent_spec.hosts_cmp hosts other) then w.makings.items else recent_spec.recent_of old other)
+recent_put old new hosts w updates other = ap recent_spec.recent_in (updates.0 other) ∙ by (is_eq (recent_spec.hosts_cmp hosts other))
   where
-    by : (here : Bool) → recent_in (cond here (Some w) (get hosts_cmp old other)) ≡ (if here then w.makings.items else recent_of old other)
+    by : (here : Bool) → recent_spec.recent_in (cond here (Some w) (get recent_spec.hosts_cmp old other)) ≡ (if here then w.makings.items else recent_spec.recent_of old other)
     by true = refl
     by false = refl
 
 -- a fragment was taken of hosts that had these keys, and these are put in
 spread : (file packet : List ℕ) (old new : BTreeMap FragmentHosts RecentMakings) (key : FragmentKey) (hosts : FragmentHosts) (recent left : List KeyedMaking) (piece other : Piece)
-    (taken : Taken) → recent ≡ recent_of old (hosts_of key) → piece ≡ other → hosts ≡ hosts_of key
-    → ((one : FragmentHosts) → recent_of new one ≡ (if is_eq (hosts_cmp hosts one) then left else recent_of old one))
-    → TakesPiece (taken_piece file key (making_in recent key.identification) piece) key taken recent left packet
-    → TakesFragment (taken_piece file key (making_in (recent_of old (hosts_of key)) key.identification) other) key taken old new packet
+    (taken : Taken) → recent ≡ recent_spec.recent_of old (recent_spec.hosts_of key) → piece ≡ other → hosts ≡ recent_spec.hosts_of key
+    → ((one : FragmentHosts) → recent_spec.recent_of new one ≡ (if is_eq (recent_spec.hosts_cmp hosts one) then left else recent_spec.recent_of old one))
+    → recent_spec.TakesPiece (assembly.taken_piece file key (recent_spec.making_in recent key.identification) piece) key taken recent left packet
+    → recent_spec.TakesFragment (assembly.taken_piece file key (recent_spec.making_in (recent_spec.recent_of old (recent_spec.hosts_of key)) key.identification) other) key taken old new packet
 spread file packet old new key hosts recent left piece other taken there same are puts is =
-    let joined : Joined = taken_piece file key (making_in (recent_of old (hosts_of key)) key.identification) other in
-    let step : taken_piece file key (making_in recent key.identification) piece ≡ joined =
-    ap₂ (λ (l : List KeyedMaking) (p : Piece). taken_piece file key (making_in l key.identification) p) there same in
-    let takes : TakesPiece joined key taken (recent_of old (hosts_of key)) left packet =
-    subst (λ (l : List KeyedMaking). TakesPiece joined key taken l left packet) there
-    (subst (λ (j : Joined). TakesPiece j key taken recent left packet) step is) in (
+    let joined : assembly.Joined = assembly.taken_piece file key (recent_spec.making_in (recent_spec.recent_of old (recent_spec.hosts_of key)) key.identification) other in
+    let step : assembly.taken_piece file key (recent_spec.making_in recent key.identification) piece ≡ joined =
+    ap₂ (λ (l : List KeyedMaking) (p : Piece). assembly.taken_piece file key (recent_spec.making_in l key.identification) p) there same in
+    let takes : recent_spec.TakesPiece joined key taken (recent_spec.recent_of old (recent_spec.hosts_of key)) left packet =
+    subst (λ (l : List KeyedMaking). recent_spec.TakesPiece joined key taken l left packet) there
+    (subst (λ (j : assembly.Joined). recent_spec.TakesPiece j key taken recent left packet) step is) in (
       takes.0,
       takes.1,
       λ one.
           puts one
-          ∙ ap₂ (λ (l : List KeyedMaking) (h : FragmentHosts). if is_eq (hosts_cmp h one) then l else recent_of old one) takes.2 are,
+          ∙ ap₂ (λ (l : List KeyedMaking) (h : FragmentHosts). if is_eq (recent_spec.hosts_cmp h one) then l else recent_spec.recent_of old one) takes.2 are,
     )
 
 -- the first fragment of two hosts was taken
 pub put_taken : (file packet : List ℕ) (old between new : BTreeMap FragmentHosts RecentMakings) (key : FragmentKey) (hosts : FragmentHosts) (v w : RecentMakings)
-    (piece other : Piece) (taken : Taken) → v.makings.items ≡ [] → piece ≡ other → hosts ≡ hosts_of key → get hosts_cmp old hosts ≡ None → between ≡ old
-    → Updates hosts_cmp between new hosts (Some w)
-    → TakesPiece (taken_piece file key (making_in v.makings.items key.identification) piece) key taken v.makings.items w.makings.items packet
-    → TakesFragment (taken_piece file key (making_in (recent_of old (hosts_of key)) key.identification) other) key taken old new packet
+    (piece other : Piece) (taken : Taken) → v.makings.items ≡ [] → piece ≡ other → hosts ≡ recent_spec.hosts_of key → get recent_spec.hosts_cmp old hosts ≡ None → between ≡ old
+    → Updates recent_spec.hosts_cmp between new hosts (Some w)
+    → recent_spec.TakesPiece (assembly.taken_piece file key (recent_spec.making_in v.makings.items key.identification) piece) key taken v.makings.items w.makings.items packet
+    → recent_spec.TakesFragment (assembly.taken_piece file key (recent_spec.making_in (recent_spec.recent_of old (recent_spec.hosts_of key)) key.identification) other) key taken old new packet
 put_taken file packet old between new key hosts v w piece other taken begins same are none unchanged updates is =
-    spread file packet old new key hosts v.makings.items w.makings.items piece other taken (begins ∙ sym (ap recent_in none) ∙ ap (recent_of old) are) same are
+    spread file packet old new key hosts v.makings.items w.makings.items piece other taken (begins ∙ sym (ap recent_spec.recent_in none) ∙ ap (recent_spec.recent_of old) are) same are
     (λ one. recent_put between new hosts w updates one
-    ∙ ap (λ (m : BTreeMap FragmentHosts RecentMakings). if is_eq (hosts_cmp hosts one) then w.makings.items else recent_of m one) unchanged) is
+    ∙ ap (λ (m : BTreeMap FragmentHosts RecentMakings). if is_eq (recent_spec.hosts_cmp hosts one) then w.makings.items else recent_spec.recent_of m one) unchanged) is
 
 -- another one was taken
 pub there_taken : {E : Type 0} (file packet : List ℕ) (old new : BTreeMap FragmentHosts RecentMakings) (key : FragmentKey) (hosts : FragmentHosts) (v w : RecentMakings)
-    (piece other : Piece) (result : Result Taken E) → piece ≡ other → hosts ≡ hosts_of key → get hosts_cmp old hosts ≡ Some v
-    → (IsSome (get hosts_cmp old hosts) → Updates hosts_cmp old new hosts (Some w))
-    → IfOk result (λ taken. TakesPiece (taken_piece file key (making_in v.makings.items key.identification) piece) key taken v.makings.items w.makings.items packet)
-    → IfOk result (λ taken. TakesFragment (taken_piece file key (making_in (recent_of old (hosts_of key)) key.identification) other) key taken old new packet)
+    (piece other : Piece) (result : Result Taken E) → piece ≡ other → hosts ≡ recent_spec.hosts_of key → get recent_spec.hosts_cmp old hosts ≡ Some v
+    → (IsSome (get recent_spec.hosts_cmp old hosts) → Updates recent_spec.hosts_cmp old new hosts (Some w))
+    → IfOk result (λ taken. recent_spec.TakesPiece (assembly.taken_piece file key (recent_spec.making_in v.makings.items key.identification) piece) key taken v.makings.items w.makings.items packet)
+    → IfOk result (λ taken. recent_spec.TakesFragment (assembly.taken_piece file key (recent_spec.making_in (recent_spec.recent_of old (recent_spec.hosts_of key)) key.identification) other) key taken old new packet)
 there_taken file packet old new key hosts v w piece other (Err e) same are there updates is = tt
 there_taken file packet old new key hosts v w piece other (Ok taken) same are there updates is =
-    spread file packet old new key hosts v.makings.items w.makings.items piece other taken (sym (ap recent_in there) ∙ ap (recent_of old) are) same are
+    spread file packet old new key hosts v.makings.items w.makings.items piece other taken (sym (ap recent_spec.recent_in there) ∙ ap (recent_spec.recent_of old) are) same are
     (recent_put old new hosts w (updates (subst IsSome (sym there) refl))) is
 
 -- hosts that compare as equal are
@@ -148,7 +148,7 @@ then_same Greater other is = let no = is in cc
 abbrev hosts_with : ℕ → ℕ → ℕ → FragmentHosts
 hosts_with version source destination = record { version = version; source = source; destination = destination }
 
-pub hosts_same : (a b : FragmentHosts) → is_eq (hosts_cmp a b) ≡ true → a ≡ b
+pub hosts_same : (a b : FragmentHosts) → is_eq (recent_spec.hosts_cmp a b) ≡ true → a ≡ b
 hosts_same a b is =
     let first = then_same (nat_cmp a.version b.version) (ordering_then (nat_cmp a.source b.source) (nat_cmp a.destination b.destination)) is in
     let next = then_same (nat_cmp a.source b.source) (nat_cmp a.destination b.destination) first.1 in
@@ -162,10 +162,10 @@ all_take P zero xs all = tt
 all_take P (suc n) [] all = tt
 all_take P (suc n) (x ∷ xs) all = (all.0, all_take P n xs all.1)
 
-pub all_without : {X : Type 0} (P : X → Type 0) (test : X → Bool) (xs : List X) → AllByRecursion P xs → AllByRecursion P (without test xs)
+pub all_without : {X : Type 0} (P : X → Type 0) (test : X → Bool) (xs : List X) → AllByRecursion P xs → AllByRecursion P (recent_spec.without test xs)
 all_without P test [] all = tt
 all_without P test (x ∷ xs) all = by (test x) (all_without P test xs all.1)
   where
-    by : (here : Bool) → AllByRecursion P (without test xs) → AllByRecursion P (if here then xs else x ∷ without test xs)
+    by : (here : Bool) → AllByRecursion P (recent_spec.without test xs) → AllByRecursion P (if here then xs else x ∷ recent_spec.without test xs)
     by true rest = all.1
     by false rest = (all.0, rest)

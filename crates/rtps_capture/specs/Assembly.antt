@@ -5,10 +5,10 @@
 -- equals one of the packet in the making changes nothing; one that equals one of the last packet given is not counted as ignored, since a
 -- frame may be recorded twice. A key is forgotten with all that it has (`specs/Recent.antt`).
 use Rattle.std.specs.Prelude.{ℕ, ◌≡◌, ◌≤◌, ◌&&◌, not, nat_le, Bool, false, if◌then◌else◌, List, [], length, count_by, drop, take, Option, Some, None}
-use Rattle.rtps_ids.specs.declared.order.Order.TheVariants.{Big}
-use Rattle.rtps_capture.specs.Checksum.{is_right}
-use Rattle.rtps_capture.specs.OctetNumbers.{two_at}
-use Rattle.rtps_capture.specs.Pieces.{fills, in_order, is_repeat, joined, pieces_with}
+use Rattle.rtps_ids.specs.declared.order.Order.{Order}
+use Rattle.rtps_capture.specs.Checksum as checksum
+use Rattle.rtps_capture.specs.OctetNumbers as octet_numbers
+use Rattle.rtps_capture.specs.Pieces as pieces_spec
 use Rattle.rtps_capture.specs.declared.assembly.Making.{Making}
 use Rattle.rtps_capture.specs.declared.assembly.Taken.{Taken}
 use Rattle.rtps_capture.specs.declared.byte_range.ByteRange.{ByteRange}
@@ -29,13 +29,13 @@ fresh_making = record { making = []; given = [] }
 
 -- the length that the UDP header tells which begins a packet, its own octets included
 abbrev pub udp_length : List ℕ → ℕ
-udp_length packet = two_at Big packet udp.LENGTH
+udp_length packet = octet_numbers.two_at Order.Big packet udp.LENGTH
 
 -- a UDP header begins the packet, which has all of its datagram, and the checksum is right
 unfoldable pub has_right_datagram : FragmentKey → List ℕ → Bool
 has_right_datagram key packet =
     nat_le udp.SIZE (length packet) && nat_le udp.SIZE (udp_length packet) && nat_le (udp_length packet) (length packet)
-    && is_right key (take (udp_length packet) packet)
+    && checksum.is_right key (take (udp_length packet) packet)
 
 -- where the datagram stands in a whole packet
 abbrev pub datagram_of_whole : FragmentKey → List ℕ → Option ByteRange
@@ -43,7 +43,7 @@ datagram_of_whole key packet = if has_right_datagram key packet then Some (recor
 
 -- a piece is no repeat of the last packet given
 abbrev pub is_new : List ℕ → Making → Piece → Bool
-is_new file making piece = not (is_repeat file piece making.given)
+is_new file making piece = not (pieces_spec.is_repeat file piece making.given)
 
 -- no datagram is given
 abbrev pub gives_none : Making → Bool → Joined
@@ -60,7 +60,7 @@ given_with file making fresh packet (Some range) = record {
 
 -- the octets of the packet in the making, one piece after another
 abbrev pub packet_of : List ℕ → List Piece → List ℕ
-packet_of file pieces = joined file (in_order pieces)
+packet_of file pieces = pieces_spec.joined file (pieces_spec.in_order pieces)
 
 -- a packet that is whole
 unfoldable pub given : List ℕ → FragmentKey → Making → Bool → Joined
@@ -68,13 +68,13 @@ given file key making fresh = given_with file making fresh (packet_of file makin
 
 -- a piece that is no repeat in the making, once it is there
 abbrev pub joined_with : List ℕ → FragmentKey → Making → Bool → Joined
-joined_with file key making fresh = if fills 0 (in_order making.making) then given file key making fresh else gives_none making fresh
+joined_with file key making fresh = if pieces_spec.fills 0 (pieces_spec.in_order making.making) then given file key making fresh else gives_none making fresh
 
 -- one piece more of this key
 unfoldable pub taken_piece : List ℕ → FragmentKey → Making → Piece → Joined
 taken_piece file key making piece =
-    if is_repeat file piece making.making then gives_none making false
-    else joined_with file key (record { making = pieces_with piece making.making; given = making.given }) (is_new file making piece)
+    if pieces_spec.is_repeat file piece making.making then gives_none making false
+    else joined_with file key (record { making = pieces_spec.pieces_with piece making.making; given = making.given }) (is_new file making piece)
 
 -- this is what is left
 abbrev pub IsJoined : Joined → Taken → Making → List ℕ → Type 0

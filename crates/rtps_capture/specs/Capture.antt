@@ -5,27 +5,23 @@
 use Rattle.std.specs.Prelude.{ℕ, ◌+◌, ◌-◌, ◌*◌, ◌^◌, ◌≡◌, ◌≤◌, ◌==◌, nat_lt, if◌then◌else◌, List, [], ◌∷◌, ◌++◌, length, slice_range, All, Option, Some, None, option_map, option_to_list, Result, Ok, Err}
 use Rattle.std.specs.Option.{option_or}
 use Rattle.std.specs.Ordering.{is_eq}
-use Rattle.rtps_capture.specs.Frames.{Unread as UnreadPart, frames_left, opened, time_of}
-use Rattle.rtps_capture.specs.Assembly.{Joined, taken_piece}
-use Rattle.rtps_capture.specs.Packets.{contents_read, moved_contents, moved_range}
-use Rattle.rtps_capture.specs.Pieces.{piece_of}
-use Rattle.rtps_capture.specs.Recent.{hosts_cmp, hosts_of, making_in, recent_of, recent_with}
-use Rattle.rtps_capture.specs.Times.{later_of}
+use Rattle.rtps_capture.specs.Frames as frames_spec
+use Rattle.rtps_capture.specs.Assembly as assembly
+use Rattle.rtps_capture.specs.Packets as packets
+use Rattle.rtps_capture.specs.Pieces as pieces
+use Rattle.rtps_capture.specs.Recent as recent
+use Rattle.rtps_capture.specs.Times as times
 use Rattle.rtps_capture.specs.declared.capture.CaptureFault.{CaptureFault}
-use Rattle.rtps_capture.specs.declared.capture.CaptureFault.TheVariants as fault
 use Rattle.rtps_capture.specs.declared.capture.CaptureReading.{CaptureReading}
 use Rattle.rtps_capture.specs.declared.capture.Collected.{Collected as CollectedStruct}
 use Rattle.rtps_capture.specs.declared.capture.Counts.{Counts}
 use Rattle.rtps_capture.specs.declared.captures.Captures.{Captures}
-use Rattle.rtps_capture.specs.declared.captures.Captures.TheVariants.{Classic, Any}
 use Rattle.rtps_capture.specs.declared.frames.Frame.{Frame}
 use Rattle.rtps_capture.specs.declared.frames.CapturedFrame.{CapturedFrame}
-use Rattle.rtps_capture.specs.declared.frames.Frame.TheVariants.{Captured, Unread, NoFrame, Rest, BadBlock, Damaged, CutFrame}
 use Rattle.rtps_capture.specs.declared.assembly.KeyedMaking.{KeyedMaking}
 use Rattle.rtps_capture.specs.declared.assembly.Making.{Making}
 use Rattle.rtps_capture.specs.declared.byte_range.ByteRange.{ByteRange}
 use Rattle.rtps_capture.specs.declared.packet.Contents.{Contents}
-use Rattle.rtps_capture.specs.declared.packet.Contents.TheVariants as contents
 use Rattle.rtps_capture.specs.declared.fragment.FragmentHosts.{FragmentHosts}
 use Rattle.rtps_capture.specs.declared.fragment.FragmentKey.{FragmentKey}
 
@@ -57,18 +53,18 @@ nothing = record {
 -- what a frame contains that stands there in the file
 unfoldable pub contents_in : Captures → List ℕ → CapturedFrame → Contents
 contents_in captures file frame =
-    moved_contents frame.range.from (contents_read captures frame.link (slice_range file frame.range.from frame.range.to))
+    packets.moved_contents frame.range.from (packets.contents_read captures frame.link (slice_range file frame.range.from frame.range.to))
 
 -- the fragments of a key; one that is forgotten has none
 abbrev pub remembered : Collected → FragmentKey → Making
-remembered so_far key = making_in (so_far.recent (hosts_of key)) key.identification
+remembered so_far key = recent.making_in (so_far.recent (recent.hosts_of key)) key.identification
 
 -- What is there with a fragment of this key, whose frame has this time: the octets of a packet that gives its datagram come behind
 -- the others.
-abbrev pub with_fragment : List ℕ → Option ℕ → Collected → FragmentKey → Joined → Collected
+abbrev pub with_fragment : List ℕ → Option ℕ → Collected → FragmentKey → assembly.Joined → Collected
 with_fragment file time so_far key joined = record {
-  recent = λ hosts. if is_eq (hosts_cmp (hosts_of key) hosts) then recent_with key.identification joined.making (so_far.recent (hosts_of key)) else so_far.recent hosts;
-  datagrams = so_far.datagrams ++ option_to_list (option_map (moved_range (length file + length so_far.behind)) joined.taken.datagram);
+  recent = λ hosts. if is_eq (recent.hosts_cmp (recent.hosts_of key) hosts) then recent.recent_with key.identification joined.making (so_far.recent (recent.hosts_of key)) else so_far.recent hosts;
+  datagrams = so_far.datagrams ++ option_to_list (option_map (packets.moved_range (length file + length so_far.behind)) joined.taken.datagram);
   times = so_far.times ++ option_to_list (option_map (λ datagram. time) joined.taken.datagram);
   frames = so_far.frames ++ option_to_list (option_map (λ datagram. so_far.counts.frames) joined.taken.datagram);
   start = so_far.start;
@@ -83,12 +79,12 @@ with_fragment file time so_far key joined = record {
 -- With the contents of a frame more, which has this time and is the last one that was counted. own: a datagram has the number of the frame
 -- that gave or completed it, by which other programs name it.
 abbrev pub with_contents : List ℕ → Option ℕ → Collected → Contents → Collected
-with_contents file time so_far (contents.Datagram range) =
+with_contents file time so_far (Contents.Datagram range) =
     record so_far { datagrams = so_far.datagrams ++ range ∷ []; times = so_far.times ++ time ∷ []; frames = so_far.frames ++ so_far.counts.frames ∷ [] }
-with_contents file time so_far (contents.Fragment fragment) =
-    with_fragment file time so_far fragment.key (taken_piece file fragment.key (remembered so_far fragment.key) (piece_of fragment))
-with_contents file time so_far contents.Cut = record so_far { counts = record so_far.counts { cut = so_far.counts.cut + 1 } }
-with_contents file time so_far contents.Other = record so_far { counts = record so_far.counts { other = so_far.counts.other + 1 } }
+with_contents file time so_far (Contents.Fragment fragment) =
+    with_fragment file time so_far fragment.key (assembly.taken_piece file fragment.key (remembered so_far fragment.key) (pieces.piece_of fragment))
+with_contents file time so_far Contents.Cut = record so_far { counts = record so_far.counts { cut = so_far.counts.cut + 1 } }
+with_contents file time so_far Contents.Other = record so_far { counts = record so_far.counts { other = so_far.counts.other + 1 } }
 
 -- one frame more was there
 abbrev pub with_frame : Collected → Collected
@@ -109,7 +105,7 @@ with_link so_far link = record so_far {
 
 -- the datagrams are as many as are wanted
 abbrev pub limited : ℕ → Collected → Result Collected CaptureFault
-limited most so_far = if nat_lt most (length so_far.datagrams) then Err fault.TooMany else Ok so_far
+limited most so_far = if nat_lt most (length so_far.datagrams) then Err CaptureFault.TooMany else Ok so_far
 
 -- the number of the next frame
 abbrev pub next_number : Collected → ℕ
@@ -117,22 +113,22 @@ next_number so_far = so_far.counts.frames + 1
 
 -- with the rest of a file that ends within a frame
 abbrev pub with_rest : Captures → List ℕ → Collected → Result Collected CaptureFault
-with_rest Classic file so_far = Err (fault.CutCapture (next_number so_far))
-with_rest Any file so_far = Ok (collected file None so_far contents.Cut)
+with_rest Captures.Classic file so_far = Err (CaptureFault.CutCapture (next_number so_far))
+with_rest Captures.Any file so_far = Ok (collected file None so_far Contents.Cut)
 
 -- with the time of a frame: the first one that there is stays, and so does the greatest one
 abbrev pub timed : Collected → Frame → Collected
-timed so_far frame = record so_far { start = option_or so_far.start (time_of frame); end = later_of so_far.end (time_of frame) }
+timed so_far frame = record so_far { start = option_or so_far.start (frames_spec.time_of frame); end = times.later_of so_far.end (frames_spec.time_of frame) }
 
 -- with what a record or block gives, whose time is there
 abbrev pub with_given : Captures → List ℕ → ℕ → Collected → Frame → Result Collected CaptureFault
-with_given captures file most so_far (Captured frame) = limited most (collected file frame.time so_far (contents_in captures file frame))
-with_given captures file most so_far (Unread link time) = Ok (with_link (with_frame so_far) link)
-with_given captures file most so_far NoFrame = Ok so_far
-with_given captures file most so_far Rest = with_rest captures file so_far
-with_given captures file most so_far BadBlock = Err fault.BadCapture
-with_given captures file most so_far Damaged = Err (fault.Damaged (next_number so_far))
-with_given captures file most so_far CutFrame = Err (fault.CutCapture (next_number so_far))
+with_given captures file most so_far (Frame.Captured frame) = limited most (collected file frame.time so_far (contents_in captures file frame))
+with_given captures file most so_far (Frame.Unread link time) = Ok (with_link (with_frame so_far) link)
+with_given captures file most so_far Frame.NoFrame = Ok so_far
+with_given captures file most so_far Frame.Rest = with_rest captures file so_far
+with_given captures file most so_far Frame.BadBlock = Err CaptureFault.BadCapture
+with_given captures file most so_far Frame.Damaged = Err (CaptureFault.Damaged (next_number so_far))
+with_given captures file most so_far Frame.CutFrame = Err (CaptureFault.CutCapture (next_number so_far))
 
 -- with what a record or block gives
 unfoldable pub noted : Captures → List ℕ → ℕ → Collected → Frame → Result Collected CaptureFault
@@ -185,35 +181,35 @@ answered (Ok so_far) = Ok (answer_of so_far)
 answered (Err fault) = Err fault
 
 -- what a capture tells, behind its header
-abbrev pub opened_read : Captures → ℕ → Option UnreadPart → Result Answer CaptureFault
-opened_read captures most None = Err fault.BadCapture
-opened_read captures most (Some unread) = answered (all_noted captures unread.octets most nothing (frames_left unread))
+abbrev pub opened_read : Captures → ℕ → Option frames_spec.Unread → Result Answer CaptureFault
+opened_read captures most None = Err CaptureFault.BadCapture
+opened_read captures most (Some unread) = answered (all_noted captures unread.octets most nothing (frames_spec.frames_left unread))
 
 -- what a file tells where these captures are read
 unfoldable pub capture_read : Captures → ℕ → List ℕ → Result Answer CaptureFault
-capture_read captures most file = opened_read captures most (opened captures file)
+capture_read captures most file = opened_read captures most (frames_spec.opened captures file)
 
 -- the first time among those of these frames, in their order
 abbrev pub first_time : List Frame → Option ℕ
 first_time [] = None
-first_time (frame ∷ frames) = option_or (time_of frame) (first_time frames)
+first_time (frame ∷ frames) = option_or (frames_spec.time_of frame) (first_time frames)
 
 -- The start that is told of a capture is the first time among those of its frames. own: what a reader is told of times is counted
 -- from it.
 pub record StartIsFirstTime : Type 0 where
-  pub first : (captures : Captures) (most : ℕ) (file : List ℕ) (unread : UnreadPart) (answer : Answer) → opened captures file ≡ Some unread
-      → capture_read captures most file ≡ Ok answer → answer.start ≡ first_time (frames_left unread)
+  pub first : (captures : Captures) (most : ℕ) (file : List ℕ) (unread : frames_spec.Unread) (answer : Answer) → frames_spec.opened captures file ≡ Some unread
+      → capture_read captures most file ≡ Ok answer → answer.start ≡ first_time (frames_spec.frames_left unread)
 
 -- the greatest time among those of these frames
 abbrev pub last_time : List Frame → Option ℕ
 last_time [] = None
-last_time (frame ∷ frames) = later_of (time_of frame) (last_time frames)
+last_time (frame ∷ frames) = times.later_of (frames_spec.time_of frame) (last_time frames)
 
 -- The end that is told of a capture is the greatest time among those of its frames, which is not always that of the last one.
 -- own: who is there up to the end is told by it.
 pub record EndIsGreatestTime : Type 0 where
-  pub greatest : (captures : Captures) (most : ℕ) (file : List ℕ) (unread : UnreadPart) (answer : Answer) → opened captures file ≡ Some unread
-      → capture_read captures most file ≡ Ok answer → answer.end ≡ last_time (frames_left unread)
+  pub greatest : (captures : Captures) (most : ℕ) (file : List ℕ) (unread : frames_spec.Unread) (answer : Answer) → frames_spec.opened captures file ≡ Some unread
+      → capture_read captures most file ≡ Ok answer → answer.end ≡ last_time (frames_spec.frames_left unread)
 
 -- what a reading tells with these octets behind the file
 abbrev pub reading_value : List ℕ → CaptureReading → Answer
@@ -233,7 +229,7 @@ reading_value behind reading = record {
 
 -- the fault is the one that is there, or memory was refused
 abbrev pub IsFault : {X : Type 0} → Result X CaptureFault → CaptureFault → Type 0
-IsFault is fault.Memory = Unit {0}
+IsFault is CaptureFault.Memory = Unit {0}
 IsFault is other = is ≡ Err other
 
 -- it is what is told, with the octets of the file and those behind it, or the fault
@@ -248,7 +244,7 @@ ignored reading = reading.pieces + reading.cut + reading.other + reading.links
 -- what a struct has collected
 abbrev pub collected_of : CollectedStruct → Collected
 collected_of so_far = record {
-  recent = recent_of so_far.assembly.recents;
+  recent = recent.recent_of so_far.assembly.recents;
   datagrams = so_far.datagrams.items;
   times = so_far.times.items;
   frames = so_far.frames.items;

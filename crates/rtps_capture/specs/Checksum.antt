@@ -4,8 +4,8 @@
 -- has the number of UDP in it. So the sum with the checksum in it is right where it is a multiple of 65,535. An address is added as one
 -- number: 65,536 is 1 modulo 65,535, so a number is there the sum of its words of two octets.
 use Rattle.std.specs.Prelude.{ℕ, ◌+◌, ◌*◌, ◌%◌, ◌==◌, ◌&&◌, ◌||◌, Bool, List, [], ◌∷◌, length}
-use Rattle.rtps_ids.specs.declared.order.Order.TheVariants.{Big}
-use Rattle.rtps_capture.specs.OctetNumbers.{two_at}
+use Rattle.rtps_ids.specs.declared.order.Order.{Order}
+use Rattle.rtps_capture.specs.OctetNumbers as octet_numbers
 use Rattle.rtps_capture.specs.declared.fragment.FragmentKey.{FragmentKey}
 use Rattle.rtps_capture.specs.declared.layout.packet.TheConstants as packet_4
 use Rattle.rtps_capture.specs.declared.layout.udp.TheConstants as udp
@@ -22,7 +22,7 @@ pseudo_sum key size = key.source % 65535 + key.destination % 65535 + packet_4.UD
 
 -- the sender made no checksum: over version 4 a 0 says so
 abbrev pub has_none : FragmentKey → List ℕ → Bool
-has_none key octets = key.version == packet_4.VERSION && two_at Big octets udp.CHECKSUM == 0
+has_none key octets = key.version == packet_4.VERSION && octet_numbers.two_at Order.Big octets udp.CHECKSUM == 0
 
 -- octets of UDP, with their header, have a right checksum
 unfoldable pub is_right : FragmentKey → List ℕ → Bool

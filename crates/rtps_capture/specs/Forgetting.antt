@@ -3,20 +3,19 @@
 use Rattle.std.specs.Prelude.{ℕ, ◌≡◌, ◌≤◌, if◌then◌else◌, List, [], ◌∷◌, length, Ok}
 use Rattle.std.specs.List.{list_any}
 use Rattle.std.specs.Ordering.{is_eq}
-use Rattle.rtps_capture.specs.Capture.{Collected, all_noted, nothing}
-use Rattle.rtps_capture.specs.Recent.{hosts_cmp, hosts_of, is_of, is_remembered}
-use Rattle.rtps_capture.specs.Sent.{contents_among}
+use Rattle.rtps_capture.specs.Capture as capture
+use Rattle.rtps_capture.specs.Recent as recent
+use Rattle.rtps_capture.specs.Sent as sent
 use Rattle.rtps_capture.specs.declared.captures.Captures.{Captures}
 use Rattle.rtps_capture.specs.declared.frames.Frame.{Frame}
 use Rattle.rtps_capture.specs.declared.fragment.FragmentHosts.{FragmentHosts}
 use Rattle.rtps_capture.specs.declared.fragment.FragmentKey.{FragmentKey}
 use Rattle.rtps_capture.specs.declared.layout.packet.TheConstants as packet
 use Rattle.rtps_capture.specs.declared.packet.Contents.{Contents}
-use Rattle.rtps_capture.specs.declared.packet.Contents.TheVariants as contents
 
 -- what came of these hosts, with the contents of a frame more: the identification of each piece, the last one first
 abbrev pub came_with : FragmentHosts → List ℕ → Contents → List ℕ
-came_with hosts came (contents.Fragment fragment) = if is_eq (hosts_cmp (hosts_of fragment.key) hosts) then fragment.key.identification ∷ came else came
+came_with hosts came (Contents.Fragment fragment) = if is_eq (recent.hosts_cmp (recent.hosts_of fragment.key) hosts) then fragment.key.identification ∷ came else came
 came_with hosts came _ = came
 
 -- what came of these hosts, with these contents behind it
@@ -26,7 +25,7 @@ came_behind hosts came (contents ∷ more) = came_behind hosts (came_with hosts 
 
 -- A key is remembered where it came and fewer than 64 others of its hosts came behind its last piece; no more than 64 are of two hosts.
 pub record KeysAreForgotten : Type 0 where
-  pub remembered : (captures : Captures) (most : ℕ) (file : List ℕ) (frames : List Frame) (so_far : Collected) → all_noted captures file most nothing frames ≡ Ok so_far → (key : FragmentKey)
-      → list_any (is_of key.identification) (so_far.recent (hosts_of key)) ≡ is_remembered key.identification (came_behind (hosts_of key) [] (contents_among captures file frames))
-  pub few : (captures : Captures) (most : ℕ) (file : List ℕ) (frames : List Frame) (so_far : Collected) → all_noted captures file most nothing frames ≡ Ok so_far → (hosts : FragmentHosts)
+  pub remembered : (captures : Captures) (most : ℕ) (file : List ℕ) (frames : List Frame) (so_far : capture.Collected) → capture.all_noted captures file most capture.nothing frames ≡ Ok so_far → (key : FragmentKey)
+      → list_any (recent.is_of key.identification) (so_far.recent (recent.hosts_of key)) ≡ recent.is_remembered key.identification (came_behind (recent.hosts_of key) [] (sent.contents_among captures file frames))
+  pub few : (captures : Captures) (most : ℕ) (file : List ℕ) (frames : List Frame) (so_far : capture.Collected) → capture.all_noted captures file most capture.nothing frames ≡ Ok so_far → (hosts : FragmentHosts)
       → length (so_far.recent hosts) ≤ packet.MOST_KEPT

@@ -3,29 +3,29 @@
 use Rattle.std.specs.Prelude.{ℕ, ◌==◌, ◌||◌, ◌%◌, nat_lt, Bool, if◌then◌else◌, List, length, take, Option, Some, None, option_and_then}
 use Rattle.std.specs.Option.{is_none}
 use Rattle.rtps_ids.specs.declared.order.Order.{Order}
-use Rattle.rtps_capture.specs.LinkTypes.{link_read}
-use Rattle.rtps_capture.specs.OctetNumbers.{four_at, order_by, two_at}
-use Rattle.rtps_capture.specs.declared.captures.Captures.TheVariants.{Classic}
-use Rattle.rtps_capture.specs.declared.layout.file.TheConstants.{LINK, LINKS, MAJOR, MICROSECONDS, NANOSECONDS, SIZE, VERSION}
+use Rattle.rtps_capture.specs.LinkTypes as link_types
+use Rattle.rtps_capture.specs.OctetNumbers as octet_numbers
+use Rattle.rtps_capture.specs.declared.captures.Captures.{Captures}
+use Rattle.rtps_capture.specs.declared.layout.file.TheConstants as file_layout
 
 -- the two numbers that captures begin with
 abbrev pub is_magic : ℕ → Bool
-is_magic number = number == MICROSECONDS || number == NANOSECONDS
+is_magic number = number == file_layout.MICROSECONDS || number == file_layout.NANOSECONDS
 
 -- In which order the numbers of a capture's headers lie: the first four octets tell it. Other octets begin no capture.
 unfoldable pub order_of : List ℕ → Option Order
-order_of octets = if nat_lt (length octets) 4 then None else order_by is_magic (take 4 octets) 0
+order_of octets = if nat_lt (length octets) 4 then None else octet_numbers.order_by is_magic (take 4 octets) 0
 
 -- the link type, the low 16 bits of a field, where the header is whole and its major version is the one that is read
 unfoldable pub link_type_in : Order → List ℕ → Option ℕ
 link_type_in order file =
-    if nat_lt (length file) SIZE then None
-    else if two_at order file MAJOR == VERSION then Some (four_at order file LINK % LINKS)
+    if nat_lt (length file) file_layout.SIZE then None
+    else if octet_numbers.two_at order file file_layout.MAJOR == file_layout.VERSION then Some (octet_numbers.four_at order file file_layout.LINK % file_layout.LINKS)
     else None
 
 -- this link type, unless it is one that is read
 abbrev pub unless_read : ℕ → Option ℕ
-unless_read number = if is_none (link_read Classic number) then Some number else None
+unless_read number = if is_none (link_types.link_read Captures.Classic number) then Some number else None
 
 -- the link type of a capture of that version that is not read as a classic one
 abbrev pub unread_link_type_of : List ℕ → Option ℕ

@@ -2,21 +2,21 @@
 -- "Options" and 4.2 "Interface Description Block".
 -- own: the first option of a code counts, if it has the size that the draft gives it. Behind one that passes the block none is read.
 use Rattle.std.specs.Prelude.{ℕ, ◌+◌, ◌*◌, ◌/◌, ◌==◌, ◌&&◌, not, nat_le, Bool, if◌then◌else◌, List, length, drop, slice_index, Option, Some, None, option_map, unwrap_or}
-use Rattle.rtps_ids.specs.Octets.{number_of}
+use Rattle.rtps_ids.specs.Octets as octets
 use Rattle.rtps_ids.specs.declared.order.Order.{Order}
-use Rattle.rtps_capture.specs.OctetNumbers.{two_at}
-use Rattle.rtps_capture.specs.Passed.{last_within}
+use Rattle.rtps_capture.specs.OctetNumbers as octet_numbers
+use Rattle.rtps_capture.specs.Passed as passed
 use Rattle.rtps_capture.specs.declared.layout.option.TheConstants as option
 use Rattle.rtps_capture.specs.declared.passed.Header.{Header}
 
 -- the option at this place; where none is there, the end
 abbrev pub option_at : Order → List ℕ → ℕ → Header
 option_at order options at =
-    record { kind = if nat_le (at + option.VALUE) (length options) then two_at order options at else option.END; at = at }
+    record { kind = if nat_le (at + option.VALUE) (length options) then octet_numbers.two_at order options at else option.END; at = at }
 
 -- the size of its value
 abbrev pub value_size : Order → List ℕ → ℕ → ℕ
-value_size order options at = two_at order options (at + option.LENGTH)
+value_size order options at = octet_numbers.two_at order options (at + option.LENGTH)
 
 -- where the next option begins: behind the value, and octets up to a multiple of four
 abbrev pub next_option : Order → List ℕ → ℕ → ℕ
@@ -36,7 +36,7 @@ option_passed order code options header =
 
 -- the first option of this code, or the last one that is read
 abbrev pub found_option : Order → ℕ → List ℕ → Header
-found_option order code options = last_within (option_passed order code options) (length options) (option_at order options 0)
+found_option order code options = passed.last_within (option_passed order code options) (length options) (option_at order options 0)
 
 -- where the value of so many octets stands of such an option
 abbrev pub value_of : Order → ℕ → ℕ → List ℕ → Header → Option ℕ
@@ -55,4 +55,4 @@ resolution_told order options = unwrap_or (option_map (λ at. slice_index option
 
 -- an offset that is not told is 0
 abbrev pub offset_told : Order → List ℕ → ℕ
-offset_told order options = unwrap_or (option_map (λ at. number_of order 8 (drop at options)) (value_told order option.OFFSET 8 options)) 0
+offset_told order options = unwrap_or (option_map (λ at. octets.number_of order 8 (drop at options)) (value_told order option.OFFSET 8 options)) 0

@@ -2,8 +2,8 @@
 -- 4 "IPv6 Extension Headers"; RFC 6946 "Processing of IPv6 'Atomic' Fragments".
 -- own: 9100 is a tag, too, since older devices write it. Extension headers are passed in any order and number.
 use Rattle.std.specs.Prelude.{ℕ, zero, suc, ◌+◌, ◌*◌, ◌/◌, ◌%◌, ◌==◌, ◌&&◌, ◌||◌, nat_le, Bool, if◌then◌else◌, List, length, slice_index, Option, Some, None, option_map, unwrap_or}
-use Rattle.rtps_ids.specs.declared.order.Order.TheVariants.{Big}
-use Rattle.rtps_capture.specs.OctetNumbers.{two_at}
+use Rattle.rtps_ids.specs.declared.order.Order.{Order}
+use Rattle.rtps_capture.specs.OctetNumbers as octet_numbers
 use Rattle.rtps_capture.specs.declared.layout.extension.TheConstants as extension
 use Rattle.rtps_capture.specs.declared.layout.tag.TheConstants as tag
 use Rattle.rtps_capture.specs.declared.passed.Header.{Header}
@@ -21,7 +21,7 @@ is_tag kind = kind == tag.CUSTOMER || kind == tag.SERVICE || kind == tag.OLDER
 abbrev pub tag_passed : List ℕ → Header → Option Header
 tag_passed frame header =
     if is_tag header.kind && nat_le (header.at + tag.SIZE) (length frame)
-    then Some (record { kind = two_at Big frame (header.at + tag.TYPE); at = header.at + tag.SIZE })
+    then Some (record { kind = octet_numbers.two_at Order.Big frame (header.at + tag.TYPE); at = header.at + tag.SIZE })
     else None
 
 -- hop-by-hop options, routing and destination options
@@ -30,7 +30,7 @@ is_extension kind = kind == extension.HOP_BY_HOP || kind == extension.ROUTING ||
 
 -- a fragment header that has neither an offset nor the flag for more fragments
 abbrev pub is_atomic : List ℕ → ℕ → Bool
-is_atomic packet at = two_at Big packet (at + extension.OFFSET) / 8 == 0 && two_at Big packet (at + extension.OFFSET) % 2 == 0
+is_atomic packet at = octet_numbers.two_at Order.Big packet (at + extension.OFFSET) / 8 == 0 && octet_numbers.two_at Order.Big packet (at + extension.OFFSET) % 2 == 0
 
 -- the size of an extension header that is whole at its front: its length counts eights of octets, the first left out
 abbrev pub extension_size : List ℕ → ℕ → ℕ

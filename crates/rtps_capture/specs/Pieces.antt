@@ -7,7 +7,7 @@ use Rattle.std.specs.BTreeMap.{BTreeMap}
 use Rattle.std.specs.List.{AllByRecursion, list_any}
 use Rattle.std.specs.Cmp.Lexicographic.{pointwise}
 use mathlib.Core.Bool.{beq}
-use Rattle.rtps_capture.specs.Packets.{fragment_size}
+use Rattle.rtps_capture.specs.Packets as packets
 use Rattle.rtps_capture.specs.declared.pieces.Piece.{Piece}
 use Rattle.rtps_capture.specs.declared.fragment.Fragment.{Fragment}
 
@@ -16,7 +16,7 @@ abbrev pub piece_of : Fragment → Piece
 piece_of fragment = record {
   at = fragment.range.from;
   start = fragment.start;
-  end = fragment.start + fragment_size fragment;
+  end = fragment.start + packets.fragment_size fragment;
   more = fragment.more;
 }
 

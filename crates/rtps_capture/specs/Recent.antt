@@ -8,7 +8,7 @@ use Rattle.std.specs.List.{list_any}
 use Rattle.std.specs.Ordering.{nat_cmp, ordering_then, is_eq}
 use Rattle.std.specs.declared.cmp.Ordering.{Ordering}
 use Rattle.std.specs.BTreeMap.{BTreeMap, get}
-use Rattle.rtps_capture.specs.Assembly.{Joined, fresh_making}
+use Rattle.rtps_capture.specs.Assembly as assembly
 use Rattle.rtps_capture.specs.declared.assembly.KeyedMaking.{KeyedMaking}
 use Rattle.rtps_capture.specs.declared.assembly.Making.{Making}
 use Rattle.rtps_capture.specs.declared.assembly.RecentMakings.{RecentMakings}
@@ -36,7 +36,7 @@ is_of identification one = one.identification == identification
 
 -- the fragments of the key with this identification
 abbrev pub making_in : List KeyedMaking → ℕ → Making
-making_in [] identification = fresh_making
+making_in [] identification = assembly.fresh_making
 making_in (one ∷ others) identification = if is_of identification one then one.making else making_in others identification
 
 -- The keys of two hosts that are remembered, once a piece of this one left these fragments of it. They stand by their last pieces: the
@@ -54,11 +54,11 @@ abbrev pub recent_of : BTreeMap FragmentHosts RecentMakings → FragmentHosts �
 recent_of recents hosts = recent_in (get hosts_cmp recents hosts)
 
 -- a piece of this key was taken: what it gave, and what its hosts have now
-abbrev pub TakesPiece : Joined → FragmentKey → Taken → List KeyedMaking → List KeyedMaking → List ℕ → Type 0
+abbrev pub TakesPiece : assembly.Joined → FragmentKey → Taken → List KeyedMaking → List KeyedMaking → List ℕ → Type 0
 TakesPiece joined key taken old new packet = (taken ≡ joined.taken) × (packet ≡ joined.packet) × (new ≡ recent_with key.identification joined.making old)
 
 -- A fragment of this key was taken: what it gave, and what its hosts have now. Other hosts have what they had.
-abbrev pub TakesFragment : Joined → FragmentKey → Taken → BTreeMap FragmentHosts RecentMakings → BTreeMap FragmentHosts RecentMakings → List ℕ → Type 0
+abbrev pub TakesFragment : assembly.Joined → FragmentKey → Taken → BTreeMap FragmentHosts RecentMakings → BTreeMap FragmentHosts RecentMakings → List ℕ → Type 0
 TakesFragment joined key taken old new packet =
     (taken ≡ joined.taken) × (packet ≡ joined.packet)
     × ((hosts : FragmentHosts) → recent_of new hosts

@@ -3,20 +3,18 @@
 -- own: a reader that told of a datagram which no packet carried would be no evidence.
 use Rattle.std.specs.Prelude.{ℕ, ◌+◌, ◌≡◌, ◌≤◌, ◌<◌, ◌⊎◌, true, false, List, [], ◌∷◌, ◌++◌, length, slice_range, take, Some, None, Ok}
 use Rattle.std.specs.List.{AllByRecursion}
-use Rattle.rtps_capture.specs.Capture.{Answer, capture_read, contents_in}
-use Rattle.rtps_capture.specs.Frames.{Unread, frames_left, opened}
-use Rattle.rtps_capture.specs.Assembly.{datagram_of_whole, packet_of, taken_piece, udp_length}
-use Rattle.rtps_capture.specs.Checksum.{is_right}
-use Rattle.rtps_capture.specs.Packets.{fragment_size}
-use Rattle.rtps_capture.specs.Pieces.{clashes_with, fills, in_order, is_repeat, is_same}
+use Rattle.rtps_capture.specs.Capture as capture
+use Rattle.rtps_capture.specs.Frames as frames
+use Rattle.rtps_capture.specs.Assembly as assembly
+use Rattle.rtps_capture.specs.Checksum as checksum
+use Rattle.rtps_capture.specs.Packets as packets
+use Rattle.rtps_capture.specs.Pieces as pieces_spec
 use Rattle.rtps_capture.specs.declared.frames.Frame.{Frame}
-use Rattle.rtps_capture.specs.declared.frames.Frame.TheVariants.{Captured}
 use Rattle.rtps_capture.specs.declared.captures.Captures.{Captures}
 use Rattle.rtps_capture.specs.declared.assembly.Making.{Making}
 use Rattle.rtps_capture.specs.declared.byte_range.ByteRange.{ByteRange}
 use Rattle.rtps_capture.specs.declared.layout.udp.TheConstants as udp
 use Rattle.rtps_capture.specs.declared.packet.Contents.{Contents}
-use Rattle.rtps_capture.specs.declared.packet.Contents.TheVariants as contents
 use Rattle.rtps_capture.specs.declared.fragment.Fragment.{Fragment}
 use Rattle.rtps_capture.specs.declared.fragment.FragmentKey.{FragmentKey}
 use Rattle.rtps_capture.specs.declared.pieces.Piece.{Piece}
@@ -24,7 +22,7 @@ use Rattle.rtps_capture.specs.declared.pieces.Piece.{Piece}
 -- what these frames contain whose link type is read, in their order
 abbrev pub contents_among : Captures → List ℕ → List Frame → List Contents
 contents_among captures file [] = []
-contents_among captures file (Captured frame ∷ frames) = contents_in captures file frame ∷ contents_among captures file frames
+contents_among captures file (Frame.Captured frame ∷ frames) = capture.contents_in captures file frame ∷ contents_among captures file frames
 contents_among captures file (other ∷ frames) = contents_among captures file frames
 
 -- one of the frames contains this
@@ -35,14 +33,14 @@ StandsAmong frames contents = (before : List Contents) × (after : List Contents
 abbrev pub AreFragments : List Contents → FragmentKey → List Fragment → Type 0
 AreFragments frames key [] = Unit {0}
 AreFragments frames key (fragment ∷ fragments) =
-    (fragment.key ≡ key) × StandsAmong frames (contents.Fragment fragment) × AreFragments frames key fragments
+    (fragment.key ≡ key) × StandsAmong frames (Contents.Fragment fragment) × AreFragments frames key fragments
 
 -- They go on from a place without a gap: the first one begins there, each other one where the one before it ends, and the last one
 -- has no more behind it.
 abbrev pub GoOn : ℕ → List Fragment → Type 0
 GoOn at [] = ⊥
 GoOn at (fragment ∷ []) = (fragment.start ≡ at) × (fragment.more ≡ false)
-GoOn at (fragment ∷ next ∷ fragments) = (fragment.start ≡ at) × GoOn (fragment.start + fragment_size fragment) (next ∷ fragments)
+GoOn at (fragment ∷ next ∷ fragments) = (fragment.start ≡ at) × GoOn (fragment.start + packets.fragment_size fragment) (next ∷ fragments)
 
 -- the octets of the fragments, one after another
 abbrev pub put_together : List ℕ → List Fragment → List ℕ
@@ -53,13 +51,13 @@ put_together file (fragment ∷ fragments) = slice_range file fragment.range.fro
 -- the checksum is right
 abbrev pub IsPayload : FragmentKey → List ℕ → List ℕ → Type 0
 IsPayload key packet payload =
-    (udp.SIZE ≤ udp_length packet) × (udp_length packet ≤ length packet) × (is_right key (take (udp_length packet) packet) ≡ true)
-    × (payload ≡ slice_range packet udp.SIZE (udp_length packet))
+    (udp.SIZE ≤ assembly.udp_length packet) × (assembly.udp_length packet ≤ length packet) × (checksum.is_right key (take (assembly.udp_length packet) packet) ≡ true)
+    × (payload ≡ slice_range packet udp.SIZE (assembly.udp_length packet))
 
 -- it stands whole in one frame
 abbrev pub IsInOneFrame : List ℕ → List Contents → List ℕ → Type 0
 IsInOneFrame file frames payload =
-    (range : ByteRange) × StandsAmong frames (contents.Datagram range) × (payload ≡ slice_range file range.from range.to)
+    (range : ByteRange) × StandsAmong frames (Contents.Datagram range) × (payload ≡ slice_range file range.from range.to)
 
 -- its packet came in fragments of one key, which go on from 0, and its checksum is right
 abbrev pub IsInFragments : List ℕ → List Contents → List ℕ → Type 0
@@ -79,25 +77,25 @@ AllWereCarried file frames behind (range ∷ ranges) =
 
 -- each datagram that is told of a capture was carried by a packet whose octets stand in it
 pub record EachWasCarried : Type 0 where
-  pub carried : (captures : Captures) (most : ℕ) (file : List ℕ) (unread : Unread) (answer : Answer) → opened captures file ≡ Some unread
-      → capture_read captures most file ≡ Ok answer
-      → AllWereCarried unread.octets (contents_among captures unread.octets (frames_left unread)) answer.behind answer.datagrams
+  pub carried : (captures : Captures) (most : ℕ) (file : List ℕ) (unread : frames.Unread) (answer : capture.Answer) → frames.opened captures file ≡ Some unread
+      → capture.capture_read captures most file ≡ Ok answer
+      → AllWereCarried unread.octets (contents_among captures unread.octets (frames.frames_left unread)) answer.behind answer.datagrams
 
 -- what a key has behind these pieces of it, which come one after another
 abbrev pub behind_pieces : List ℕ → FragmentKey → Making → List Piece → Making
 behind_pieces file key making [] = making
-behind_pieces file key making (piece ∷ pieces) = behind_pieces file key (taken_piece file key making piece).making pieces
+behind_pieces file key making (piece ∷ pieces) = behind_pieces file key (assembly.taken_piece file key making piece).making pieces
 
 -- none of them gives a datagram
 abbrev pub GiveNone : List ℕ → FragmentKey → Making → List Piece → Type 0
 GiveNone file key making [] = Unit {0}
 GiveNone file key making (piece ∷ pieces) =
-    ((taken_piece file key making piece).taken.datagram ≡ None) × GiveNone file key (taken_piece file key making piece).making pieces
+    ((assembly.taken_piece file key making piece).taken.datagram ≡ None) × GiveNone file key (assembly.taken_piece file key making piece).making pieces
 
 -- each of these pieces clashes with none that came before it: these seen, and those in front of it
 abbrev pub AreApart : List Piece → List Piece → Type 0
 AreApart seen [] = Unit {0}
-AreApart seen (piece ∷ pieces) = (clashes_with seen piece ≡ false) × AreApart (seen ++ piece ∷ []) pieces
+AreApart seen (piece ∷ pieces) = (pieces_spec.clashes_with seen piece ≡ false) × AreApart (seen ++ piece ∷ []) pieces
 
 -- the piece has an octet
 abbrev pub HasOctet : Piece → Type 0
@@ -105,14 +103,14 @@ HasOctet piece = piece.start < piece.end
 
 -- a piece that waits is none of these, and has an octet
 abbrev pub IsOther : List ℕ → List Piece → Piece → Type 0
-IsOther file pieces old = HasOctet old × AllByRecursion (λ piece. is_same file piece old ≡ false) pieces
+IsOther file pieces old = HasOctet old × AllByRecursion (λ piece. pieces_spec.is_same file piece old ≡ false) pieces
 
 -- These pieces, in the order in which they come, are those of one packet: no two clash, each has an octet, and they have all octets of
 -- the packet. None of them waits.
 pub record ArePacket (file : List ℕ) (waiting pieces : List Piece) : Type 0 where
   pub apart : AreApart [] pieces
   pub octets : AllByRecursion HasOctet pieces
-  pub whole : fills 0 (in_order pieces) ≡ true
+  pub whole : pieces_spec.fills 0 (pieces_spec.in_order pieces) ≡ true
   pub others : AllByRecursion (IsOther file pieces) waiting
 
 -- Each whole packet is given. Where its pieces come one after another for their key, and have a right datagram, it is given at the
@@ -120,8 +118,8 @@ pub record ArePacket (file : List ℕ) (waiting pieces : List Piece) : Type 0 wh
 -- changes nothing.
 pub record EachPacketIsGiven : Type 0 where
   pub given : (file : List ℕ) (key : FragmentKey) (making : Making) (pieces : List Piece) (last : Piece) (range : ByteRange)
-      → ArePacket file making.making (pieces ++ last ∷ []) → datagram_of_whole key (packet_of file (pieces ++ last ∷ [])) ≡ Some range → GiveNone file key making pieces
-      → let joined = taken_piece file key (behind_pieces file key making pieces) last in
-      (joined.taken.datagram ≡ Some range) × (joined.packet ≡ packet_of file (pieces ++ last ∷ []))
-  pub repeated : (file : List ℕ) (key : FragmentKey) (making : Making) (piece : Piece) → is_repeat file piece making.making ≡ true
-      → ((taken_piece file key making piece).making ≡ making) × ((taken_piece file key making piece).taken.datagram ≡ None)
+      → ArePacket file making.making (pieces ++ last ∷ []) → assembly.datagram_of_whole key (assembly.packet_of file (pieces ++ last ∷ [])) ≡ Some range → GiveNone file key making pieces
+      → let joined = assembly.taken_piece file key (behind_pieces file key making pieces) last in
+      (joined.taken.datagram ≡ Some range) × (joined.packet ≡ assembly.packet_of file (pieces ++ last ∷ []))
+  pub repeated : (file : List ℕ) (key : FragmentKey) (making : Making) (piece : Piece) → pieces_spec.is_repeat file piece making.making ≡ true
+      → ((assembly.taken_piece file key making piece).making ≡ making) × ((assembly.taken_piece file key making piece).taken.datagram ≡ None)

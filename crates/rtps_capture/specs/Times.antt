@@ -3,19 +3,19 @@
 -- own: what is finer than a nanosecond is left out. A time before 1970, or past what 64 bits count, is none.
 use Rattle.std.specs.Prelude.{ℕ, ◌+◌, ◌-◌, ◌*◌, ◌/◌, ◌^◌, nat_le, nat_lt, max, Bool, if◌then◌else◌, List, Option, Some, None, option_and_then}
 use Rattle.rtps_ids.specs.declared.order.Order.{Order}
-use Rattle.rtps_capture.specs.OctetNumbers.{four_at}
+use Rattle.rtps_capture.specs.OctetNumbers as octet_numbers
 use Rattle.rtps_capture.specs.declared.blocks.Interface.{Interface}
-use Rattle.rtps_capture.specs.declared.layout.record.TheConstants.{FRACTION, SECONDS}
-use Rattle.rtps_capture.specs.declared.layout.time.TheConstants.{MICROSECOND, SECOND}
+use Rattle.rtps_capture.specs.declared.layout.record.TheConstants as record_layout
+use Rattle.rtps_capture.specs.declared.layout.time.TheConstants as time_layout
 
 -- the time of a record of a classic file, whose fraction is of nanoseconds or of microseconds
 abbrev pub record_time : Bool → Order → List ℕ → ℕ → ℕ
 record_time nanoseconds order file at =
-    four_at order file (at + SECONDS) * SECOND + (if nanoseconds then four_at order file (at + FRACTION) else four_at order file (at + FRACTION) * MICROSECOND)
+    octet_numbers.four_at order file (at + record_layout.SECONDS) * time_layout.SECOND + (if nanoseconds then octet_numbers.four_at order file (at + record_layout.FRACTION) else octet_numbers.four_at order file (at + record_layout.FRACTION) * time_layout.MICROSECOND)
 
 -- two words of four octets as one number, of which the first one is the high half
 abbrev pub pair_at : Order → List ℕ → ℕ → ℕ
-pair_at order file at = four_at order file at * 2 ^ 32 + four_at order file (at + 4)
+pair_at order file at = octet_numbers.four_at order file at * 2 ^ 32 + octet_numbers.four_at order file (at + 4)
 
 -- how many units of its clock an interface counts in a second: a resolution is a power of 10, and from 128 on one of 2
 abbrev pub units_of : ℕ → ℕ
@@ -23,13 +23,13 @@ units_of resolution = if nat_lt resolution 128 then 10 ^ resolution else 2 ^ (re
 
 -- so many units in nanoseconds
 unfoldable pub nanoseconds_of : ℕ → ℕ → ℕ
-nanoseconds_of resolution ticks = ticks * SECOND / units_of resolution
+nanoseconds_of resolution ticks = ticks * time_layout.SECOND / units_of resolution
 
 -- a time that is so many seconds later; from 2^63 on an offset is below 0, in two's complement of 64 bits
 unfoldable pub later_by : ℕ → ℕ → Option ℕ
 later_by offset time =
-    if nat_lt offset (2 ^ 63) then Some (time + offset * SECOND)
-    else if nat_le ((2 ^ 64 - offset) * SECOND) time then Some (time - (2 ^ 64 - offset) * SECOND)
+    if nat_lt offset (2 ^ 63) then Some (time + offset * time_layout.SECOND)
+    else if nat_le ((2 ^ 64 - offset) * time_layout.SECOND) time then Some (time - (2 ^ 64 - offset) * time_layout.SECOND)
     else None
 
 -- a time that 64 bits count

@@ -1,10 +1,9 @@
 ghost use Rattle.std.specs.Prelude.{◌≡◌, ◌≤◌, ◌<◌, ◌+◌, ◌^◌, [], ◌∷◌, length, take, IfOk, IfSome, OnOk, None};
 ghost use Rattle.std.specs.List.{position};
-ghost use Rattle.rtps_capture.specs.Assembly.{IsJoined, StandsInPacket, fresh_making, given, taken_piece};
 ghost use Rattle.rtps_capture.specs.Assembly as assembly;
-ghost use Rattle.rtps_capture.specs.Packets.{fragment_size};
+ghost use Rattle.rtps_capture.specs.Packets as packets;
 ghost use Rattle.rtps_capture.specs.Pieces as pieces;
-ghost use Rattle.rtps_capture.specs.Recent.{TakesFragment, TakesPiece, hosts_of, is_of, making_in, recent_of, without};
+ghost use Rattle.rtps_capture.specs.Recent as recent;
 ghost use Rattle.rtps_capture.specs.declared.fragment.FragmentHosts.{FragmentHosts as HostsValue};
 ghost use Rattle.rtps_capture.specs.declared.layout.packet.TheConstants.{MOST_KEPT};
 
@@ -52,7 +51,7 @@ pub(crate) struct Making {
 
 impl Making {
     fn new(alloc: Global) -> Making
-        ensures { result ≡ fresh_making }
+        ensures { result ≡ assembly.fresh_making }
     {
         Making {
             making: Pieces::new(alloc),
@@ -71,8 +70,8 @@ impl Making {
     ) -> Result<Taken, Memory>
         requires ordered { piece.start ≤ piece.end }
         requires none { packet.old.items ≡ [] }
-        ensures taken { IfOk result (λ taken. IsJoined (taken_piece file.now key.now self.old piece) taken self.new packet.new.items) }
-        ensures within { IfOk result (λ taken. StandsInPacket packet.new.items taken.datagram) }
+        ensures taken { IfOk result (λ taken. assembly.IsJoined (assembly.taken_piece file.now key.now self.old piece) taken self.new packet.new.items) }
+        ensures within { IfOk result (λ taken. assembly.StandsInPacket packet.new.items taken.datagram) }
     {
         if self.making.has(file, &piece) {
             return Ok(Taken::nothing(false));
@@ -95,8 +94,8 @@ impl Making {
         packet: &mut Vec<u8>,
     ) -> Result<Taken, Memory>
         requires { packet.old.items ≡ [] }
-        ensures taken { IfOk result (λ taken. IsJoined (given file.now key.now self.old fresh) taken self.new packet.new.items) }
-        ensures within { IfOk result (λ taken. StandsInPacket packet.new.items taken.datagram) }
+        ensures taken { IfOk result (λ taken. assembly.IsJoined (assembly.given file.now key.now self.old fresh) taken self.new packet.new.items) }
+        ensures within { IfOk result (λ taken. assembly.StandsInPacket packet.new.items taken.datagram) }
     {
         self.making.append_to(file, packet)?;
         let datagram = datagram_of_whole(key, packet);
@@ -169,8 +168,8 @@ impl RecentMakings {
     ) -> Result<Taken, Memory>
         requires ordered { piece.start ≤ piece.end }
         requires none { packet.old.items ≡ [] }
-        ensures taken { IfOk result (λ taken. TakesPiece (taken_piece file.now key.now (making_in self.old.makings.items key.now.identification) piece) key.now taken self.old.makings.items self.new.makings.items packet.new.items) }
-        ensures within { IfOk result (λ taken. StandsInPacket packet.new.items taken.datagram) }
+        ensures taken { IfOk result (λ taken. recent.TakesPiece (assembly.taken_piece file.now key.now (recent.making_in self.old.makings.items key.now.identification) piece) key.now taken self.old.makings.items self.new.makings.items packet.new.items) }
+        ensures within { IfOk result (λ taken. assembly.StandsInPacket packet.new.items taken.datagram) }
     {
         let mut making = self.take_out(key.identification);
         let taken = making.take(file, key, piece, packet)?;
@@ -180,8 +179,8 @@ impl RecentMakings {
 
     /// Takes out the fragments of the key with this identification.
     fn take_out(&mut self, identification: u32) -> Making
-        ensures making { result ≡ making_in self.old.makings.items identification }
-        ensures others { self.new.makings.items ≡ without (is_of identification) self.old.makings.items }
+        ensures making { result ≡ recent.making_in self.old.makings.items identification }
+        ensures others { self.new.makings.items ≡ recent.without (recent.is_of identification) self.old.makings.items }
     {
         let place = self.place_of(identification).unwrap_or(self.makings.len());
         match self.makings.remove(place) {
@@ -191,7 +190,7 @@ impl RecentMakings {
     }
 
     fn place_of(&self, identification: u32) -> Option<usize>
-        ensures { result ≡ position (is_of identification) self.now.makings.items }
+        ensures { result ≡ position (recent.is_of identification) self.now.makings.items }
     {
         self.makings
             .iter()
@@ -220,7 +219,7 @@ pub(crate) struct Assembly {
 
 impl Assembly {
     pub(crate) fn new(alloc: Global) -> Assembly
-        ensures none { (hosts : HostsValue) → recent_of result.recents hosts ≡ [] }
+        ensures none { (hosts : HostsValue) → recent.recent_of result.recents hosts ≡ [] }
     {
         Assembly {
             alloc,
@@ -236,10 +235,10 @@ impl Assembly {
         fragment: &Fragment,
         packet: &mut Vec<u8>,
     ) -> Result<Taken, Memory>
-        requires stands { fragment.now.start + fragment_size fragment.now < 2 ^ 32 }
+        requires stands { fragment.now.start + packets.fragment_size fragment.now < 2 ^ 32 }
         requires none { packet.old.items ≡ [] }
-        ensures taken { IfOk result (λ taken. TakesFragment (taken_piece file.now fragment.now.key (making_in (recent_of self.old.recents (hosts_of fragment.now.key)) fragment.now.key.identification) (pieces.piece_of fragment.now)) fragment.now.key taken self.old.recents self.new.recents packet.new.items) }
-        ensures within { IfOk result (λ taken. StandsInPacket packet.new.items taken.datagram) }
+        ensures taken { IfOk result (λ taken. recent.TakesFragment (assembly.taken_piece file.now fragment.now.key (recent.making_in (recent.recent_of self.old.recents (recent.hosts_of fragment.now.key)) fragment.now.key.identification) (pieces.piece_of fragment.now)) fragment.now.key taken self.old.recents self.new.recents packet.new.items) }
+        ensures within { IfOk result (λ taken. assembly.StandsInPacket packet.new.items taken.datagram) }
     {
         let piece = piece_of(fragment);
         let hosts = fragment.key.hosts();

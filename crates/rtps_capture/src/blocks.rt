@@ -1,5 +1,4 @@
 ghost use Rattle.std.specs.Prelude.{◌≡◌, ◌≤◌, ◌+◌, length};
-ghost use Rattle.rtps_capture.specs.Blocks.{BlockStands};
 ghost use Rattle.rtps_capture.specs.Blocks as blocks;
 
 use crate::layout::{block, interface, packet_block, section};
@@ -80,7 +79,7 @@ fn fixed_size(kind: u32) -> usize
 fn block_with(kind: u32, order: Order, octets: &[u8], at: usize) -> Block
     requires { at + 8 ≤ length octets.now }
     ensures block { result ≡ blocks.block_with kind order octets.now at }
-    ensures stands { BlockStands at octets.now result }
+    ensures stands { blocks.BlockStands at octets.now result }
 {
     let size = four_octets(order, octets, at + block::LENGTH) as usize;
     if size % block::UNIT != 0 || size < block::LEAST + fixed_size(kind) {
@@ -105,7 +104,7 @@ fn block_with(kind: u32, order: Order, octets: &[u8], at: usize) -> Block
 pub(crate) fn block_at(order: Order, octets: &[u8], at: usize) -> Block
     requires { at ≤ length octets.now }
     ensures block { result ≡ blocks.block_at order octets.now at }
-    ensures stands { BlockStands at octets.now result }
+    ensures stands { blocks.BlockStands at octets.now result }
 {
     let rest = octets.len() - at;
     if rest < block::BODY {

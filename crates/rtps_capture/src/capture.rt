@@ -1,9 +1,9 @@
-ghost use Rattle.std.specs.Prelude.{◌≡◌, ◌≤◌, ◌<◌, ◌+◌, ◌^◌, ◌++◌, [], ℕ, Option, length, IfOk, MatchResult, Ok, OnOk};
-ghost use Rattle.rtps_capture.specs.Assembly.{taken_piece};
-ghost use Rattle.rtps_capture.specs.Capture.{AreWithin, IsAnswer, IsCounted, IsCountedWith, IsFault, StaysWithin, answer_of, capture_read, collected, collected_of, ignored, noted, nothing, reading_value, remembered, size_of, with_fragment};
-ghost use Rattle.rtps_capture.specs.Frames.{StandsInFile};
-ghost use Rattle.rtps_capture.specs.Packets.{StandsIn, fragment_size};
-ghost use Rattle.rtps_capture.specs.Pieces.{piece_of};
+ghost use Rattle.std.specs.Prelude.{◌≡◌, ◌≤◌, ◌<◌, ◌+◌, ◌^◌, ◌++◌, [], length, IfOk, MatchResult, Ok, OnOk};
+ghost use Rattle.rtps_capture.specs.Assembly as assembly_spec;
+ghost use Rattle.rtps_capture.specs.Capture as capture;
+ghost use Rattle.rtps_capture.specs.Frames as frames_spec;
+ghost use Rattle.rtps_capture.specs.Packets as packets;
+ghost use Rattle.rtps_capture.specs.Pieces as pieces_spec;
 
 use crate::assembly::Assembly;
 use crate::byte_range::ByteRange;
@@ -111,9 +111,9 @@ pub fn read_capture(
     octets: Vec<u8>,
     most: u64,
 ) -> Result<CaptureReading, CaptureFault>
-    ensures read { IsAnswer octets.items (capture_read captures most octets.items) result }
-    ensures few { IfOk result (λ reading. ignored reading < 2 ^ 64) }
-    ensures within { IfOk result (λ reading. AreWithin (length reading.octets.items) reading.datagrams.items) }
+    ensures read { capture.IsAnswer octets.items (capture.capture_read captures most octets.items) result }
+    ensures few { IfOk result (λ reading. capture.ignored reading < 2 ^ 64) }
+    ensures within { IfOk result (λ reading. capture.AreWithin (length reading.octets.items) reading.datagrams.items) }
 {
     let Some(mut frames) = Frames::open(alloc, captures, &octets) else {
         return Err(CaptureFault::BadCapture);
@@ -128,8 +128,8 @@ pub fn read_capture(
 impl Collected {
     fn new(alloc: Global, octets: Vec<u8>) -> Collected
         ensures file { result.octets.file ≡ octets.items }
-        ensures nothing { collected_of result ≡ nothing }
-        ensures counted { IsCounted result }
+        ensures nothing { capture.collected_of result ≡ capture.nothing }
+        ensures counted { capture.IsCounted result }
         ensures empty { result.datagrams.items ≡ [] }
     {
         Collected {
@@ -147,14 +147,14 @@ impl Collected {
 
     #[tactic(auto, unfolding(crate::specs::Capture::noted, crate::specs::Capture::collected, crate::specs::Capture::contents_in))]
     fn note(&mut self, captures: Captures, frame: Frame, most: u64) -> Result<(), CaptureFault>
-        requires counted { IsCounted self.old }
+        requires counted { capture.IsCounted self.old }
         requires few { self.old.counts.frames < 2 ^ 63 }
-        requires stands { StandsInFile (length self.old.octets.file) frame }
-        ensures noted { let defined = noted captures self.old.octets.file most (collected_of self.old) frame in MatchResult result (λ _. defined ≡ Ok (collected_of self.new)) (IsFault defined) }
-        ensures counted { OnOk result (IsCounted self.new) }
+        requires stands { frames_spec.StandsInFile (length self.old.octets.file) frame }
+        ensures noted { let defined = capture.noted captures self.old.octets.file most (capture.collected_of self.old) frame in MatchResult result (λ _. defined ≡ Ok (capture.collected_of self.new)) (capture.IsFault defined) }
+        ensures counted { OnOk result (capture.IsCounted self.new) }
         ensures frames { OnOk result (self.new.counts.frames ≤ self.old.counts.frames + 1) }
         ensures file { OnOk result (self.new.octets.file ≡ self.old.octets.file) }
-        ensures within { OnOk result (StaysWithin self.old self.new) }
+        ensures within { OnOk result (capture.StaysWithin self.old self.new) }
     {
         let number = self.counts.frames + 1;
         self.start = self.start.or(frame.time());
@@ -195,14 +195,14 @@ impl Collected {
 
     #[tactic(auto, unfolding(crate::specs::Capture::collected))]
     fn take(&mut self, contents: Contents, time: Option<u64>) -> Result<(), Memory>
-        requires counted { IsCounted self.old }
+        requires counted { capture.IsCounted self.old }
         requires few { self.old.counts.frames < 2 ^ 63 }
-        requires stands { StandsIn (length self.old.octets.file) contents }
-        ensures collected { OnOk result (collected_of self.new ≡ collected self.old.octets.file time (collected_of self.old) contents) }
-        ensures counted { OnOk result (IsCounted self.new) }
+        requires stands { packets.StandsIn (length self.old.octets.file) contents }
+        ensures collected { OnOk result (capture.collected_of self.new ≡ capture.collected self.old.octets.file time (capture.collected_of self.old) contents) }
+        ensures counted { OnOk result (capture.IsCounted self.new) }
         ensures frames { OnOk result (self.new.counts.frames ≡ self.old.counts.frames + 1) }
         ensures file { OnOk result (self.new.octets.file ≡ self.old.octets.file) }
-        ensures within { OnOk result (StaysWithin self.old self.new) }
+        ensures within { OnOk result (capture.StaysWithin self.old self.new) }
     {
         self.counts.frames += 1;
         match contents {
@@ -219,14 +219,14 @@ impl Collected {
     }
 
     fn take_fragment(&mut self, fragment: &Fragment, time: Option<u64>) -> Result<(), Memory>
-        requires counted { IsCountedWith 1 self.old }
+        requires counted { capture.IsCountedWith 1 self.old }
         requires few { self.old.counts.frames < 2 ^ 64 }
-        requires stands { fragment.now.start + fragment_size fragment.now < 2 ^ 32 }
-        ensures collected { let file = self.old.octets.file in OnOk result (collected_of self.new ≡ with_fragment file time (collected_of self.old) fragment.now.key (taken_piece file fragment.now.key (remembered (collected_of self.old) fragment.now.key) (piece_of fragment.now))) }
-        ensures counted { OnOk result (IsCounted self.new) }
+        requires stands { fragment.now.start + packets.fragment_size fragment.now < 2 ^ 32 }
+        ensures collected { let file = self.old.octets.file in OnOk result (capture.collected_of self.new ≡ capture.with_fragment file time (capture.collected_of self.old) fragment.now.key (assembly_spec.taken_piece file fragment.now.key (capture.remembered (capture.collected_of self.old) fragment.now.key) (pieces_spec.piece_of fragment.now))) }
+        ensures counted { OnOk result (capture.IsCounted self.new) }
         ensures frames { OnOk result (self.new.counts.frames ≡ self.old.counts.frames) }
         ensures file { OnOk result (self.new.octets.file ≡ self.old.octets.file) }
-        ensures within { OnOk result (StaysWithin self.old self.new) }
+        ensures within { OnOk result (capture.StaysWithin self.old self.new) }
     {
         self.packet.clear();
         let taken = self
@@ -248,12 +248,12 @@ impl Collected {
     }
 
     fn finish(self) -> CaptureReading
-        requires counted { IsCounted self }
+        requires counted { capture.IsCounted self }
         requires few { self.counts.frames < 2 ^ 63 }
         ensures octets { result.octets.items ≡ self.octets.file ++ self.octets.behind }
-        ensures answer { reading_value self.octets.behind result ≡ answer_of (collected_of self) }
-        ensures few { ignored result < 2 ^ 64 }
-        ensures within { AreWithin (size_of self) self.datagrams.items → AreWithin (length result.octets.items) result.datagrams.items }
+        ensures answer { capture.reading_value self.octets.behind result ≡ capture.answer_of (capture.collected_of self) }
+        ensures few { capture.ignored result < 2 ^ 64 }
+        ensures within { capture.AreWithin (capture.size_of self) self.datagrams.items → capture.AreWithin (length result.octets.items) result.datagrams.items }
     {
         CaptureReading {
             octets: self.octets.into_octets(),

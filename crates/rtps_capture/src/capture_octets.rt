@@ -13,9 +13,9 @@ pub(crate) struct CaptureOctets {
 
 impl Model for CaptureOctets {
     ghost use Rattle.std.specs.Prelude.{◌≤◌, drop, length, take};
-    ghost use Rattle.rtps_capture.specs.Assembly.{Extended};
+    ghost use Rattle.rtps_capture.specs.Assembly as assembly;
 
-    ghost Value = { Extended };
+    ghost Value = { assembly.Extended };
 
     ghost view = { λ held. record { file = take held.size held.octets.items; behind = drop held.size held.octets.items } };
 

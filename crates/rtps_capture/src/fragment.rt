@@ -1,7 +1,6 @@
 ghost use Rattle.std.specs.Prelude.{◌≡◌, ◌≤◌, ◌<◌, ◌+◌, ◌^◌, length};
-ghost use Rattle.rtps_capture.specs.Packets.{StandsIn, key_4, key_6};
 ghost use Rattle.rtps_capture.specs.Packets as packets_spec;
-ghost use Rattle.rtps_capture.specs.Recent.{hosts_of};
+ghost use Rattle.rtps_capture.specs.Recent as recent;
 
 use crate::byte_range::ByteRange;
 use crate::layout::{extension, packet, packet_6};
@@ -43,7 +42,7 @@ pub(crate) struct FragmentHosts {
 
 impl FragmentKey {
     pub(crate) fn hosts(&self) -> FragmentHosts
-        ensures { result ≡ hosts_of self.now }
+        ensures { result ≡ recent.hosts_of self.now }
     {
         FragmentHosts {
             version: self.version,
@@ -59,7 +58,7 @@ pub(crate) fn fragment_of(fragment: Fragment) -> Contents
     requires small { fragment.start < 2 ^ 32 }
     requires few { fragment.range.to < 2 ^ 63 }
     ensures contents { result ≡ packets_spec.fragment_of fragment }
-    ensures within { StandsIn fragment.range.to result }
+    ensures within { packets_spec.StandsIn fragment.range.to result }
 {
     let size = fragment.range.to - fragment.range.from;
     if fragment.start + size > packet::MOST {
@@ -73,7 +72,7 @@ pub(crate) fn fragment_of(fragment: Fragment) -> Contents
 
 pub(crate) fn key_4_of(octets: &[u8]) -> FragmentKey
     requires { 20 ≤ length octets.now }
-    ensures { result ≡ key_4 octets.now }
+    ensures { result ≡ packets_spec.key_4 octets.now }
 {
     FragmentKey {
         identification: u32::from(two_octets(Order::Big, octets, packet::IDENTIFICATION)),
@@ -87,7 +86,7 @@ pub(crate) fn key_4_of(octets: &[u8]) -> FragmentKey
 pub(crate) fn key_6_of(octets: &[u8], at: usize) -> FragmentKey
     requires packet { 40 ≤ length octets.now }
     requires header { at + 8 ≤ length octets.now }
-    ensures { result ≡ key_6 octets.now at }
+    ensures { result ≡ packets_spec.key_6 octets.now at }
 {
     FragmentKey {
         identification: four_octets(Order::Big, octets, at + extension::IDENTIFICATION),

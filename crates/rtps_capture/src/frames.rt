@@ -1,7 +1,5 @@
-ghost use Rattle.std.specs.Prelude.{◌≡◌, ◌≤◌, ◌<◌, ◌+◌, length, IfOk, IfSome, MatchOption, None, Some};
-ghost use Rattle.rtps_capture.specs.Blocks.{BlockStands};
+ghost use Rattle.std.specs.Prelude.{◌≡◌, ◌≤◌, ◌<◌, length, IfOk, MatchOption, None, Some};
 ghost use Rattle.rtps_capture.specs.Blocks as blocks;
-ghost use Rattle.rtps_capture.specs.Frames.{GivesNext, StandsInFile, TakesStep, end_with, opened, interfaces_behind, step_of_block, step_of_record, time_of, unread_of};
 ghost use Rattle.rtps_capture.specs.Frames as frames_spec;
 ghost use Rattle.rtps_capture.specs.declared.blocks.Block.TheVariants.{Whole};
 
@@ -43,7 +41,7 @@ impl Frame {
     /// When it was captured, in nanoseconds since 1970, if it is a frame and that is told.
     #[inline]
     pub(crate) fn time(self) -> Option<u64>
-        ensures { result ≡ time_of self }
+        ensures { result ≡ frames_spec.time_of self }
     {
         match self {
             Frame::Captured(frame) => frame.time,
@@ -113,7 +111,7 @@ fn frame_of_interface(interface: Option<Interface>, ticks: Option<u64>, range: B
 fn framed(interface: Option<Interface>, ticks: Option<u64>, size: usize, range: ByteRange) -> Frame
     requires { range.from ≤ range.to }
     ensures framed { result ≡ frames_spec.framed interface ticks size range }
-    ensures within { StandsInFile range.to result }
+    ensures within { frames_spec.StandsInFile range.to result }
 {
     if size > record::MOST {
         return Frame::Damaged;
@@ -139,9 +137,9 @@ fn simple_size(first: Option<Interface>, original: u32, room: usize) -> usize
 #[tactic(auto, unfolding(crate::specs::Frames::frame_of_block))]
 #[inline]
 fn frame_of_block(interfaces: &[Interface], whole: WholeBlock, octets: &[u8], at: usize) -> Frame
-    requires { BlockStands at octets.now (Whole whole) }
+    requires { blocks.BlockStands at octets.now (Whole whole) }
     ensures gives { result ≡ frames_spec.frame_of_block interfaces.now whole octets.now at }
-    ensures within { StandsInFile (length octets.now) result }
+    ensures within { frames_spec.StandsInFile (length octets.now) result }
 {
     let body = at + block::BODY;
     let to = whole.to - block::REPETITION;
@@ -172,8 +170,8 @@ fn keep_interfaces(
     octets: &[u8],
     at: usize,
 ) -> Result<(), Memory>
-    requires { BlockStands at octets.now (Whole whole) }
-    ensures { IfOk result (λ _. interfaces.new.items ≡ interfaces_behind interfaces.old.items whole octets.now at) }
+    requires { blocks.BlockStands at octets.now (Whole whole) }
+    ensures { IfOk result (λ _. interfaces.new.items ≡ frames_spec.interfaces_behind interfaces.old.items whole octets.now at) }
 {
     if whole.kind == block::SECTION {
         interfaces.clear();
@@ -198,7 +196,7 @@ impl Frames {
     /// first block is not a whole header of a section that is read.
     #[tactic(auto, unfolding(crate::specs::Frames::opened, crate::specs::Opening::link_type_in))]
     pub(crate) fn open(alloc: Global, captures: Captures, octets: &[u8]) -> Option<Frames>
-        ensures opened { MatchOption result (opened captures octets.now ≡ None) (λ frames. opened captures octets.now ≡ Some (unread_of octets.now frames)) }
+        ensures opened { MatchOption result (frames_spec.opened captures octets.now ≡ None) (λ frames. frames_spec.opened captures octets.now ≡ Some (frames_spec.unread_of octets.now frames)) }
     {
         if let Some(order) = capture_order(octets) {
             let link = link_read(captures, link_type_in(order, octets)?)?;
@@ -228,7 +226,7 @@ impl Frames {
     /// What the next record or block gives. None after the last one, and after one behind which nothing is read. After
     /// `Memory` nothing is promised of what is unread.
     pub(crate) fn next_frame(&mut self, octets: &[u8]) -> Result<Option<Frame>, Memory>
-        ensures { IfOk result (λ item. GivesNext (unread_of octets.now self.old) item (unread_of octets.now self.new)) }
+        ensures { IfOk result (λ item. frames_spec.GivesNext (frames_spec.unread_of octets.now self.old) item (frames_spec.unread_of octets.now self.new)) }
     {
         if self.at >= octets.len() {
             return Ok(None);
@@ -241,7 +239,7 @@ impl Frames {
 
     /// Gives this, and nothing behind it.
     fn end_with(&mut self, frame: Frame, octets: &[u8]) -> Frame
-        ensures { TakesStep (end_with frame (unread_of octets.now self.old)) result (unread_of octets.now self.new) }
+        ensures { frames_spec.TakesStep (frames_spec.end_with frame (frames_spec.unread_of octets.now self.old)) result (frames_spec.unread_of octets.now self.new) }
     {
         self.at = octets.len();
         frame
@@ -250,8 +248,8 @@ impl Frames {
     #[inline]
     fn next_record(&mut self, octets: &[u8], records: Records) -> Frame
         requires { self.old.at < length octets.now }
-        ensures step { TakesStep (step_of_record (unread_of octets.now self.old) records) result (unread_of octets.now self.new) }
-        ensures within { StandsInFile (length octets.now) result }
+        ensures step { frames_spec.TakesStep (frames_spec.step_of_record (frames_spec.unread_of octets.now self.old) records) result (frames_spec.unread_of octets.now self.new) }
+        ensures within { frames_spec.StandsInFile (length octets.now) result }
     {
         let room = octets.len() - self.at;
         if room < record::SIZE {
@@ -276,8 +274,8 @@ impl Frames {
 
     fn next_block(&mut self, octets: &[u8]) -> Result<Frame, Memory>
         requires { self.old.at < length octets.now }
-        ensures step { IfOk result (λ frame. TakesStep (step_of_block (unread_of octets.now self.old) (blocks.block_at self.old.order octets.now self.old.at)) frame (unread_of octets.now self.new)) }
-        ensures within { IfOk result (λ frame. StandsInFile (length octets.now) frame) }
+        ensures step { IfOk result (λ frame. frames_spec.TakesStep (frames_spec.step_of_block (frames_spec.unread_of octets.now self.old) (blocks.block_at self.old.order octets.now self.old.at)) frame (frames_spec.unread_of octets.now self.new)) }
+        ensures within { IfOk result (λ frame. frames_spec.StandsInFile (length octets.now) frame) }
     {
         let whole = match block_at(self.order, octets, self.at) {
             Block::Whole(whole) => whole,

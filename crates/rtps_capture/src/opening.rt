@@ -1,7 +1,5 @@
 ghost use Rattle.std.specs.Prelude.{◌≡◌};
-ghost use Rattle.rtps_capture.specs.Opening.{order_of, unread_link_type_of};
 ghost use Rattle.rtps_capture.specs.Opening as opening;
-ghost use Rattle.rtps_capture.specs.declared.layout.file.TheConstants.{SIZE};
 
 use crate::captures::Captures;
 use crate::layout::file;
@@ -15,7 +13,7 @@ pub const CAPTURE_HEADER_SIZE: usize = file::SIZE;
 /// (PCAP Capture File Format, 4 "File Header").
 #[tactic(auto, unfolding(crate::specs::Opening::order_of))]
 pub fn capture_order(octets: &[u8]) -> Option<Order>
-    ensures { result ≡ order_of octets.now }
+    ensures { result ≡ opening.order_of octets.now }
 {
     let start = octets.get(..4)?;
     let big = u32_at(Order::Big, start, 0)?;
@@ -30,7 +28,7 @@ pub fn capture_order(octets: &[u8]) -> Option<Order>
 /// capture of major version 2, or do not reach to its header's end, and where its frames are read (PCAP Capture File Format, 4
 /// "File Header").
 pub fn unread_link_type(octets: &[u8]) -> Option<u32>
-    ensures { result ≡ unread_link_type_of octets.now }
+    ensures { result ≡ opening.unread_link_type_of octets.now }
 {
     let number = link_type_in(capture_order(octets)?, octets)?;
     match link_read(Captures::Classic, number) {

@@ -1,5 +1,4 @@
-ghost use Rattle.std.specs.Prelude.{◌≡◌, ◌≤◌, ◌<◌, ◌+◌, ◌-◌, ◌^◌, length};
-ghost use Rattle.rtps_capture.specs.Packets.{StandsIn, is_within, moved_contents};
+ghost use Rattle.std.specs.Prelude.{◌≡◌, ◌≤◌, ◌+◌, ◌-◌, ◌^◌, length};
 ghost use Rattle.rtps_capture.specs.Packets as packets;
 
 use crate::byte_range::ByteRange;
@@ -43,7 +42,7 @@ enum Carried {
 #[inline]
 pub(crate) fn contents_read(captures: Captures, link: LinkType, frame: &[u8]) -> Contents
     ensures contents { result ≡ packets.contents_read captures link frame.now }
-    ensures within { StandsIn (length frame.now) result }
+    ensures within { packets.StandsIn (length frame.now) result }
 {
     match captures {
         Captures::Any => match packet_of(link, frame) {
@@ -76,8 +75,8 @@ fn size_in_front(link: LinkType) -> usize
 /// Contents of a packet that begins at this place, with their places counted as this one is.
 #[inline]
 pub(crate) fn moved(by: usize, contents: Contents) -> Contents
-    requires { StandsIn (2 ^ 63 - by) contents }
-    ensures { result ≡ moved_contents by contents }
+    requires { packets.StandsIn (2 ^ 63 - by) contents }
+    ensures { result ≡ packets.moved_contents by contents }
 {
     match contents {
         Contents::Datagram(range) => Contents::Datagram(ByteRange {
@@ -99,7 +98,7 @@ pub(crate) fn moved(by: usize, contents: Contents) -> Contents
 #[tactic(auto, unfolding(crate::specs::Packets::packet_of))]
 fn packet_of(link: LinkType, frame: &[u8]) -> Carried
     ensures carried { result ≡ packets.packet_of link frame.now }
-    ensures within { is_within (length frame.now) result }
+    ensures within { packets.is_within (length frame.now) result }
 {
     match link {
         LinkType::Ethernet => carried_behind(ethernet::TYPE, ethernet::SIZE, frame),
@@ -116,7 +115,7 @@ fn packet_of(link: LinkType, frame: &[u8]) -> Carried
 #[inline]
 fn carried_at(frame: &[u8], at: usize, only: Option<u8>) -> Carried
     ensures carried { result ≡ packets.carried_at frame.now at only }
-    ensures within { is_within (length frame.now) result }
+    ensures within { packets.is_within (length frame.now) result }
 {
     if frame.len() <= at {
         return Carried::Unfinished;
@@ -137,7 +136,7 @@ fn carried_at(frame: &[u8], at: usize, only: Option<u8>) -> Carried
 fn carried_behind(type_at: usize, size: usize, frame: &[u8]) -> Carried
     requires { type_at + 2 ≤ size }
     ensures carried { result ≡ packets.carried_behind type_at size frame.now }
-    ensures within { is_within (length frame.now) result }
+    ensures within { packets.is_within (length frame.now) result }
 {
     if frame.len() < size {
         return Carried::Unfinished;
@@ -159,7 +158,7 @@ fn carried_behind(type_at: usize, size: usize, frame: &[u8]) -> Carried
 #[tactic(auto, unfolding(crate::specs::Packets::contents_of_ipv4))]
 fn contents_of_ipv4(octets: &[u8]) -> Contents
     ensures contents { result ≡ packets.contents_of_ipv4 octets.now }
-    ensures within { StandsIn (length octets.now) result }
+    ensures within { packets.StandsIn (length octets.now) result }
 {
     if octets.len() < packet::LEAST {
         return Contents::Cut;
@@ -195,7 +194,7 @@ fn contents_of_ipv4(octets: &[u8]) -> Contents
 #[tactic(auto, unfolding(crate::specs::Packets::contents_of_ipv6))]
 fn contents_of_ipv6(octets: &[u8]) -> Contents
     ensures contents { result ≡ packets.contents_of_ipv6 octets.now }
-    ensures within { StandsIn (length octets.now) result }
+    ensures within { packets.StandsIn (length octets.now) result }
 {
     if octets.len() < packet_6::SIZE {
         return Contents::Cut;
@@ -219,7 +218,7 @@ fn contents_of_ipv6(octets: &[u8]) -> Contents
 fn contents_of_whole(octets: &[u8]) -> Contents
     requires { 40 ≤ length octets.now }
     ensures contents { result ≡ packets.contents_of_whole octets.now }
-    ensures within { StandsIn (length octets.now) result }
+    ensures within { packets.StandsIn (length octets.now) result }
 {
     let first = Header {
         kind: u16::from(octets[packet_6::NEXT]),
@@ -258,7 +257,7 @@ pub(crate) fn udp_within(octets: &[u8], range: ByteRange) -> Contents
     requires ordered { range.from ≤ range.to }
     requires within { range.to ≤ length octets.now }
     ensures contents { result ≡ packets.udp_within octets.now range }
-    ensures within { StandsIn (length octets.now) result }
+    ensures within { packets.StandsIn (length octets.now) result }
 {
     if range.to - range.from < udp::SIZE {
         return Contents::Other;

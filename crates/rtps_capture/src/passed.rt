@@ -1,5 +1,4 @@
-ghost use Rattle.std.specs.Prelude.{◌≡◌, ◌≤◌, ◌<◌, ◌+◌, IfSome, length};
-ghost use Rattle.rtps_capture.specs.Passed.{last_within};
+ghost use Rattle.std.specs.Prelude.{◌≡◌, ◌≤◌, ◌<◌, IfSome, length};
 ghost use Rattle.rtps_capture.specs.Passed as passed_spec;
 
 use crate::layout::{extension, tag};
@@ -32,7 +31,7 @@ fn tag_passed(frame: &[u8], header: Header) -> Option<Header>
 
 pub(crate) fn behind_tags(first: Header, frame: &[u8]) -> Header
     requires { first.at ≤ length frame.now }
-    ensures last { result ≡ last_within (passed_spec.tag_passed frame.now) (length frame.now) first }
+    ensures last { result ≡ passed_spec.last_within (passed_spec.tag_passed frame.now) (length frame.now) first }
     ensures within { result.at ≤ length frame.now }
 {
     let mut header = first;
@@ -74,7 +73,7 @@ fn extension_passed(packet: &[u8], header: Header) -> Option<Header>
 
 pub(crate) fn behind_extensions(first: Header, packet: &[u8]) -> Header
     requires { first.at ≤ length packet.now }
-    ensures last { result ≡ last_within (passed_spec.extension_passed packet.now) (length packet.now) first }
+    ensures last { result ≡ passed_spec.last_within (passed_spec.extension_passed packet.now) (length packet.now) first }
     ensures within { result.at ≤ length packet.now }
 {
     let mut header = first;

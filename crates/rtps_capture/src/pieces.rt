@@ -1,7 +1,6 @@
-ghost use Rattle.std.specs.Prelude.{◌≡◌, ◌≤◌, ◌<◌, ◌+◌, ◌-◌, ◌^◌, ◌++◌, ◌∷◌, [], drop, false, not, count_by, OnOk};
-ghost use Rattle.rtps_capture.specs.Pieces.{clashes_with, fills, in_order, is_repeat, joined, pieces_with};
+ghost use Rattle.std.specs.Prelude.{◌≡◌, ◌≤◌, ◌<◌, ◌+◌, ◌^◌, ◌++◌, ◌∷◌, [], drop, false, not, count_by, OnOk};
 ghost use Rattle.rtps_capture.specs.Pieces as pieces_spec;
-ghost use Rattle.rtps_capture.specs.Packets.{fragment_size};
+ghost use Rattle.rtps_capture.specs.Packets as packets;
 
 use crate::fragment::Fragment;
 use rtps_ids::Memory;
@@ -24,7 +23,7 @@ pub(crate) struct Piece {
 
 /// The fragment, whose range is one of the file, as it is kept.
 pub(crate) fn piece_of(fragment: &Fragment) -> Piece
-    requires { fragment.now.start + fragment_size fragment.now < 2 ^ 32 }
+    requires { fragment.now.start + packets.fragment_size fragment.now < 2 ^ 32 }
     ensures { result ≡ pieces_spec.piece_of fragment.now }
 {
     let size = fragment.range.to.saturating_sub(fragment.range.from);
@@ -78,13 +77,13 @@ pub(crate) struct Pieces {
 impl Model for Pieces {
     ghost use Rattle.std.specs.Prelude.{List};
     ghost use Rattle.rtps_capture.specs.declared.pieces.Piece.{Piece as PieceValue};
-    ghost use Rattle.rtps_capture.specs.Pieces.{AreKept};
+    ghost use Rattle.rtps_capture.specs.Pieces as pieces_spec;
 
     ghost Value = { List PieceValue };
 
     ghost view = { λ pieces. pieces.came.items };
 
-    ghost invariant = { λ pieces. AreKept pieces.came.items pieces.by_place pieces.held };
+    ghost invariant = { λ pieces. pieces_spec.AreKept pieces.came.items pieces.by_place pieces.held };
 }
 
 impl Pieces {
@@ -99,7 +98,7 @@ impl Pieces {
     }
 
     pub(crate) fn has(&self, file: &[u8], piece: &Piece) -> bool
-        ensures { result ≡ is_repeat file.now piece.now self.now }
+        ensures { result ≡ pieces_spec.is_repeat file.now piece.now self.now }
     {
         match self.by_place.get(&piece.start) {
             Some(there) => is_same(file, piece, there),
@@ -109,7 +108,7 @@ impl Pieces {
 
     /// Whether no packet has this piece and all of these: it does not stand between its neighbours.
     fn clashes(&self, piece: &Piece) -> bool
-        ensures { result ≡ clashes_with self.now piece.now }
+        ensures { result ≡ pieces_spec.clashes_with self.now piece.now }
     {
         if let Some((_, before)) = self.by_place.range(..piece.start).next_back() {
             if !stands_before(before, piece) {
@@ -125,7 +124,7 @@ impl Pieces {
     /// Adds a piece that is no repeat. The oldest pieces go as long as it clashes with one of them.
     pub(crate) fn join(&mut self, piece: Piece) -> Result<(), Memory>
         requires { piece.start ≤ piece.end }
-        ensures { OnOk result (self.new ≡ pieces_with piece self.old) }
+        ensures { OnOk result (self.new ≡ pieces_spec.pieces_with piece self.old) }
     {
         while self.clashes(&piece) {
             self.drop_oldest();
@@ -136,7 +135,7 @@ impl Pieces {
     /// Adds a piece that clashes with none of these.
     fn add(&mut self, piece: Piece) -> Result<(), Memory>
         requires ordered { piece.start ≤ piece.end }
-        requires apart { clashes_with self.old piece ≡ false }
+        requires apart { pieces_spec.clashes_with self.old piece ≡ false }
         ensures { OnOk result (self.new ≡ self.old ++ piece ∷ []) }
     {
         self.came.reserve(1)?;
@@ -156,7 +155,7 @@ impl Pieces {
     }
 
     pub(crate) fn is_whole(&self) -> bool
-        ensures { result ≡ fills 0 (in_order self.now) }
+        ensures { result ≡ pieces_spec.fills 0 (pieces_spec.in_order self.now) }
     {
         match self.by_place.last_key_value() {
             Some((_, last)) => !last.more && self.held == last.end as usize,
@@ -166,7 +165,7 @@ impl Pieces {
 
     /// How many of them are no repeats of these others.
     pub(crate) fn count_new(&self, file: &[u8], others: &Pieces) -> usize
-        ensures { result ≡ count_by (λ piece. not (is_repeat file.now piece others.now)) self.now }
+        ensures { result ≡ count_by (λ piece. not (pieces_spec.is_repeat file.now piece others.now)) self.now }
     {
         self.came
             .iter()
@@ -175,7 +174,7 @@ impl Pieces {
     }
 
     pub(crate) fn append_to(&self, file: &[u8], out: &mut Vec<u8>) -> Result<(), Memory>
-        ensures { OnOk result (out.new.items ≡ out.old.items ++ joined file.now (in_order self.now)) }
+        ensures { OnOk result (out.new.items ≡ out.old.items ++ pieces_spec.joined file.now (pieces_spec.in_order self.now)) }
     {
         for piece in self.by_place.values() {
             out.extend_from_slice(piece_octets(file, piece))?;

@@ -1,5 +1,4 @@
 ghost use Rattle.std.specs.Prelude.{◌≡◌, ◌≤◌, ◌<◌, ◌+◌, ◌*◌, ◌^◌, length};
-ghost use Rattle.rtps_capture.specs.Times.{later_of};
 ghost use Rattle.rtps_capture.specs.Times as times_spec;
 ghost use Rattle.rtps_capture.specs.declared.layout.time.TheConstants.{SECOND};
 
@@ -79,7 +78,7 @@ pub(crate) fn block_time(interface: Interface, ticks: u64) -> Option<u64>
 /// The later of two times, where there are two.
 #[inline]
 pub(crate) fn later(one: Option<u64>, other: Option<u64>) -> Option<u64>
-    ensures { result ≡ later_of one other }
+    ensures { result ≡ times_spec.later_of one other }
 {
     match (one, other) {
         (Some(one), Some(other)) => Some(one.max(other)),

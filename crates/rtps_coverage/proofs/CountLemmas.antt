@@ -7,8 +7,8 @@ use Rattle.std.proofs.lemmas.List.{take_all, get_or_default}
 use Rattle.std.proofs.lemmas.List.Folds.{list_any_more}
 use Rattle.std.proofs.lemmas.Bool.{cases_lt}
 use Rattle.std.proofs.lemmas.Bool.Decides.{nat_tests}
-use Rattle.rtps_coverage.specs.Counts.{count_in}
-use Rattle.rtps_coverage.specs.Stretches.{stretch_has, stretches_have}
+use Rattle.rtps_coverage.specs.Counts as counts
+use Rattle.rtps_coverage.specs.Stretches as stretches_spec
 use Rattle.rtps_coverage.specs.declared.stretch.Stretch.{Stretch}
 
 one_more : (b : Bool) (n : ℕ) (ns : List ℕ) → length (cond b (n ∷ ns) ns) ≡ cond b 1 0 + length ns
@@ -45,7 +45,7 @@ counted_on has lo (suc n) m =
     let two : counted has lo (suc n) ≡ cond (has lo) 1 0 + counted has (lo + 1) n = counted_next has lo n in
     omega arith
 
-pub count_split : (has : ℕ → Bool) (lo mid hi : ℕ) → lo ≤ mid → mid ≤ hi → count_in has lo hi ≡ count_in has lo mid + count_in has mid hi
+pub count_split : (has : ℕ → Bool) (lo mid hi : ℕ) → lo ≤ mid → mid ≤ hi → counts.count_in has lo hi ≡ counts.count_in has lo mid + counts.count_in has mid hi
 unfolding counted
 count_split has lo mid hi a b =
     let sum : hi - lo ≡ (mid - lo) + (hi - mid) = omega arith in
@@ -62,7 +62,7 @@ counted_same one other lo (suc n) same =
     ∙ ap (λ m. cond (other lo) 1 0 + m) (counted_same one other (lo + 1) n (λ k a b. same k (omega arith) (omega arith)))
     ∙ sym (counted_next other lo n)
 
-pub count_same : (one other : ℕ → Bool) (lo hi : ℕ) → ((k : ℕ) → lo ≤ k → k < hi → one k ≡ other k) → count_in one lo hi ≡ count_in other lo hi
+pub count_same : (one other : ℕ → Bool) (lo hi : ℕ) → ((k : ℕ) → lo ≤ k → k < hi → one k ≡ other k) → counts.count_in one lo hi ≡ counts.count_in other lo hi
 unfolding counted
 count_same one other lo hi same = counted_same one other lo (hi - lo) (λ k a b. same k a (omega arith))
 
@@ -77,12 +77,12 @@ counted_none lo zero = refl
 counted_none lo (suc n) = counted_next (λ k. false) lo n ∙ ap (λ m. 0 + m) (counted_none (lo + 1) n) ∙ (let e : 0 + 0 ≡ 0 = omega arith in e)
 
 -- all of them have it
-pub count_all : (has : ℕ → Bool) (lo hi : ℕ) → ((k : ℕ) → lo ≤ k → k < hi → has k ≡ true) → count_in has lo hi ≡ hi - lo
+pub count_all : (has : ℕ → Bool) (lo hi : ℕ) → ((k : ℕ) → lo ≤ k → k < hi → has k ≡ true) → counts.count_in has lo hi ≡ hi - lo
 unfolding counted
 count_all has lo hi all = count_same has (λ k. true) lo hi all ∙ counted_all lo (hi - lo)
 
 -- none has it
-pub count_none : (has : ℕ → Bool) (lo hi : ℕ) → ((k : ℕ) → lo ≤ k → k < hi → has k ≡ false) → count_in has lo hi ≡ 0
+pub count_none : (has : ℕ → Bool) (lo hi : ℕ) → ((k : ℕ) → lo ≤ k → k < hi → has k ≡ false) → counts.count_in has lo hi ≡ 0
 unfolding counted
 count_none has lo hi none = count_same has (λ k. false) lo hi none ∙ counted_none lo (hi - lo)
 
@@ -102,7 +102,7 @@ same_below before behind lo hi from reached h filled n a b = elim (cases_lt n lo
 pub count_stretch : (before behind : ℕ → Bool) (stretch_lo stretch_hi from reached end lo hi count : ℕ) → Joins before behind stretch_lo stretch_hi
     → lo ≡ max stretch_lo reached → hi ≡ min stretch_hi end → lo < hi → from ≤ reached
     → ((n : ℕ) → stretch_lo ≤ n → from ≤ n → n < reached → before n ≡ true) → ((n : ℕ) → reached ≤ n → n < end → before n ≡ false)
-    → count ≡ count_in before from reached → count + (hi - lo) ≡ count_in behind from hi
+    → count ≡ counts.count_in before from reached → count + (hi - lo) ≡ counts.count_in behind from hi
 count_stretch before behind stretch_lo stretch_hi from reached end lo hi count h lo_is hi_is some onward filled past counted =
     let one = count_split behind from reached hi onward (omega arith) in
     let two = count_split behind reached lo hi (omega arith) (omega arith) in
@@ -113,12 +113,12 @@ count_stretch before behind stretch_lo stretch_hi from reached end lo hi count h
 
 pub count_no_stretch : (before behind : ℕ → Bool) (stretch_lo stretch_hi from reached count : ℕ) → Joins before behind stretch_lo stretch_hi
     → ((n : ℕ) → stretch_lo ≤ n → from ≤ n → n < reached → before n ≡ true)
-    → count ≡ count_in before from reached → count ≡ count_in behind from reached
+    → count ≡ counts.count_in before from reached → count ≡ counts.count_in behind from reached
 count_no_stretch before behind stretch_lo stretch_hi from reached count h filled counted =
     counted ∙ sym (count_same behind before from reached (same_below before behind stretch_lo stretch_hi from reached h filled))
 
 -- those that have one and those that have it not but another
-pub count_rest : (some all : ℕ → Bool) (lo hi : ℕ) → ((n : ℕ) → some n ≡ true → all n ≡ true) → count_in all lo hi ≡ count_in some lo hi + count_in (λ n. all n && not (some n)) lo hi
+pub count_rest : (some all : ℕ → Bool) (lo hi : ℕ) → ((n : ℕ) → some n ≡ true → all n ≡ true) → counts.count_in all lo hi ≡ counts.count_in some lo hi + counts.count_in (λ n. all n && not (some n)) lo hi
 unfolding counted
 count_rest some all lo hi h = rest lo (hi - lo)
   where
@@ -139,22 +139,22 @@ count_rest some all lo hi h = rest lo (hi - lo)
         omega arith
 
 -- those that have it and those that have it not are all
-pub count_others : (has : ℕ → Bool) (lo hi : ℕ) → hi - lo ≡ count_in has lo hi + count_in (λ n. not (has n)) lo hi
+pub count_others : (has : ℕ → Bool) (lo hi : ℕ) → hi - lo ≡ counts.count_in has lo hi + counts.count_in (λ n. not (has n)) lo hi
 count_others has lo hi = sym (count_all (λ n. true) lo hi (λ n a b. refl)) ∙ count_rest has (λ n. true) lo hi (λ n h. refl)
 
 -- ---- stretches that were looked at
 
-joined : (stretches : List Stretch) (i : ℕ) (d : Stretch) → i < length stretches → Joins (stretches_have (take i stretches)) (stretches_have (take (i + 1) stretches)) (get_or stretches i d).lo (get_or stretches i d).hi
-joined stretches i d lt = record { joins = λ n. list_any_more (stretch_has n) stretches i d lt }
+joined : (stretches : List Stretch) (i : ℕ) (d : Stretch) → i < length stretches → Joins (stretches_spec.stretches_have (take i stretches)) (stretches_spec.stretches_have (take (i + 1) stretches)) (get_or stretches i d).lo (get_or stretches i d).hi
+joined stretches i d lt = record { joins = λ n. list_any_more (stretches_spec.stretch_has n) stretches i d lt }
 
 -- what is known where so many stretches were looked at, and the numbers below `reached` counted
 pub record IsCounted (stretches : List Stretch) (from end i reached count : ℕ) : Type 0 where
   pub onward : from ≤ reached
   pub within : reached ≤ end
   pub fits : count ≤ reached - from
-  pub exact : count ≡ count_in (stretches_have (take i stretches)) from reached
-  pub past : (n : ℕ) → reached ≤ n → n < end → stretches_have (take i stretches) n ≡ false
-  pub filled : (k n : ℕ) (d : Stretch) → i ≤ k → k < length stretches → (get_or stretches k d).lo ≤ n → from ≤ n → n < reached → stretches_have (take i stretches) n ≡ true
+  pub exact : count ≡ counts.count_in (stretches_spec.stretches_have (take i stretches)) from reached
+  pub past : (n : ℕ) → reached ≤ n → n < end → stretches_spec.stretches_have (take i stretches) n ≡ false
+  pub filled : (k n : ℕ) (d : Stretch) → i ≤ k → k < length stretches → (get_or stretches k d).lo ≤ n → from ≤ n → n < reached → stretches_spec.stretches_have (take i stretches) n ≡ true
 
 pub counted_stretch : (stretches : List Stretch) (from end i reached count : ℕ) (d : Stretch) (lo hi : ℕ) → IsNonDecreasingBy (λ (stretch : Stretch). stretch.lo) stretches → i < length stretches → IsCounted stretches from end i reached count
     → lo ≡ max (get_or stretches i d).lo reached → hi ≡ min (get_or stretches i d).hi end → lo < hi → IsCounted stretches from end (i + 1) hi (count + (hi - lo))
@@ -167,13 +167,13 @@ counted_stretch stretches from end i reached count d lo hi sorted lt is lo_is hi
       onward = omega arith;
       within = omega arith;
       fits = omega arith;
-      exact = count_stretch (stretches_have (take i stretches)) (stretches_have (take (i + 1) stretches)) (get_or stretches i d).lo (get_or stretches i d).hi from reached end lo hi count join lo_is hi_is some is.onward (λ n a b e. is.filled i n d (omega arith) lt a b e) is.past is.exact;
-      past = λ n a b. join.joins n ∙ (let out : stretches_have (take i stretches) n ≡ false = is.past n (omega arith) b in let late : nat_lt n (get_or stretches i d).hi ≡ false = grind (arith, nat_tests) in rw (out, late) (and-false (nat_le (get_or stretches i d).lo n)));
+      exact = count_stretch (stretches_spec.stretches_have (take i stretches)) (stretches_spec.stretches_have (take (i + 1) stretches)) (get_or stretches i d).lo (get_or stretches i d).hi from reached end lo hi count join lo_is hi_is some is.onward (λ n a b e. is.filled i n d (omega arith) lt a b e) is.past is.exact;
+      past = λ n a b. join.joins n ∙ (let out : stretches_spec.stretches_have (take i stretches) n ≡ false = is.past n (omega arith) b in let late : nat_lt n (get_or stretches i d).hi ≡ false = grind (arith, nat_tests) in rw (out, late) (and-false (nat_le (get_or stretches i d).lo n)));
       filled = λ k n e a b low from_n below.
           let rises : (get_or stretches i e).lo ≤ (get_or stretches k e).lo = sorted i k e (omega arith) b in
           let same : get_or stretches i e ≡ get_or stretches i d = get_or_default stretches i e d lt in
           let lower = ap (λ (stretch : Stretch). stretch.lo) same in
-          join.joins n ∙ (let one : nat_le (get_or stretches i d).lo n ≡ true = grind (arith, nat_tests) in let two : nat_lt n (get_or stretches i d).hi ≡ true = grind (arith, nat_tests) in rw (one, two) (or-true (stretches_have (take i stretches) n)));
+          join.joins n ∙ (let one : nat_le (get_or stretches i d).lo n ≡ true = grind (arith, nat_tests) in let two : nat_lt n (get_or stretches i d).hi ≡ true = grind (arith, nat_tests) in rw (one, two) (or-true (stretches_spec.stretches_have (take i stretches) n)));
     }
 
 pub counted_no_stretch : (stretches : List Stretch) (from end i reached count : ℕ) (d : Stretch) (lo hi : ℕ) → i < length stretches → IsCounted stretches from end i reached count
@@ -184,9 +184,9 @@ counted_no_stretch stretches from end i reached count d lo hi lt is lo_is hi_is 
       onward = is.onward;
       within = is.within;
       fits = is.fits;
-      exact = count_no_stretch (stretches_have (take i stretches)) (stretches_have (take (i + 1) stretches)) (get_or stretches i d).lo (get_or stretches i d).hi from reached count join (λ n a b e. is.filled i n d (omega arith) lt a b e) is.exact;
-      past = λ n a b. join.joins n ∙ (let out : stretches_have (take i stretches) n ≡ false = is.past n a b in rw out (outside (get_or stretches i d).lo (get_or stretches i d).hi n (λ low high. omega arith)));
-      filled = λ k n e a b low from_n below. join.joins n ∙ (let in_it : stretches_have (take i stretches) n ≡ true = is.filled k n e (omega arith) b low from_n below in rw in_it refl);
+      exact = count_no_stretch (stretches_spec.stretches_have (take i stretches)) (stretches_spec.stretches_have (take (i + 1) stretches)) (get_or stretches i d).lo (get_or stretches i d).hi from reached count join (λ n a b e. is.filled i n d (omega arith) lt a b e) is.exact;
+      past = λ n a b. join.joins n ∙ (let out : stretches_spec.stretches_have (take i stretches) n ≡ false = is.past n a b in rw out (outside (get_or stretches i d).lo (get_or stretches i d).hi n (λ low high. omega arith)));
+      filled = λ k n e a b low from_n below. join.joins n ∙ (let in_it : stretches_spec.stretches_have (take i stretches) n ≡ true = is.filled k n e (omega arith) b low from_n below in rw in_it refl);
     }
   where
     outside : (lo hi n : ℕ) → (lo ≤ n → n < hi → ⊥) → (false || (nat_le lo n && nat_lt n hi)) ≡ false
@@ -198,11 +198,11 @@ counted_no_stretch stretches from end i reached count d lo hi lt is lo_is hi_is 
       ]
     ]
 
-pub counted_end : (stretches : List Stretch) (from end i reached count : ℕ) → length stretches ≤ i → IsCounted stretches from end i reached count → count ≡ count_in (stretches_have stretches) from end
+pub counted_end : (stretches : List Stretch) (from end i reached count : ℕ) → length stretches ≤ i → IsCounted stretches from end i reached count → count ≡ counts.count_in (stretches_spec.stretches_have stretches) from end
 counted_end stretches from end i reached count le is =
     let all = take_all i stretches le in
-    let rest = count_none (stretches_have (take i stretches)) reached end is.past in
-    let whole = count_split (stretches_have (take i stretches)) from reached end is.onward is.within in
-    let same = ap (λ l. count_in (stretches_have l) from end) all in
+    let rest = count_none (stretches_spec.stretches_have (take i stretches)) reached end is.past in
+    let whole = count_split (stretches_spec.stretches_have (take i stretches)) from reached end is.onward is.within in
+    let same = ap (λ l. counts.count_in (stretches_spec.stretches_have l) from end) all in
     let so_far = is.exact in
     omega arith

@@ -13,8 +13,8 @@ use Rattle.std.proofs.lemmas.Option.{none-some}
 use Rattle.std.proofs.lemmas.Map.Lookups.{exact_unsigned}
 use Rattle.std.proofs.lemmas.Map.Keys.{sorted_head, sorted_tail}
 use Rattle.std.proofs.lemmas.Map.Views.{tells_apart}
-use Rattle.rtps_coverage.specs.RangeMap.{IsApart, values_all}
-use Rattle.rtps_coverage.specs.Laws.{AreApart, HasRangesApart}
+use Rattle.rtps_coverage.specs.RangeMap as range_map
+use Rattle.rtps_coverage.specs.Laws as laws
 use Rattle.rtps_coverage.specs.declared.merged_ranges.MergedRanges.{MergedRanges}
 use Rattle.rtps_coverage.specs.declared.stretch.Stretch.{Stretch}
 use Rattle.rtps_coverage.proofs.RangeMapLemmas.{not_at}
@@ -43,7 +43,7 @@ all_keys P (x ∷ xs) key stretch all e = step (λ k. all_keys P xs key stretch 
 are_apart : (es : List (ℕ × Stretch)) → IsStrictlySortedBy nat_cmp (keys_of es)
     → ((key : ℕ) (stretch : Stretch) → lookup (is_at (nat_cmp key)) es ≡ Some stretch → stretch.lo < stretch.hi)
     → ((low high : ℕ) (first second : Stretch) → lookup (is_at (nat_cmp low)) es ≡ Some first → lookup (is_at (nat_cmp high)) es ≡ Some second → low < high → first.hi < second.lo)
-    → AreApart (values_of es)
+    → laws.AreApart (values_of es)
 are_apart [] sorted some apart = tt
 are_apart (x ∷ xs) sorted some apart =
     let tail = sorted_tail nat_cmp x.0 (keys_of xs) sorted in
@@ -52,13 +52,13 @@ are_apart (x ∷ xs) sorted some apart =
     let back : (key : ℕ) (stretch : Stretch) → lookup (is_at (nat_cmp key)) xs ≡ Some stretch → lookup (is_at (nat_cmp key)) (x ∷ xs) ≡ Some stretch =
     λ key stretch e. at_tail x xs key stretch (past key stretch e) e in (
       some x.0 x.1 (at_head x xs),
-      values_all xs (λ other. x.1.hi < other.lo) tail (λ key stretch e. apart x.0 key x.1 stretch (at_head x xs) (back key stretch e) (past key stretch e)),
+      range_map.values_all xs (λ other. x.1.hi < other.lo) tail (λ key stretch e. apart x.0 key x.1 stretch (at_head x xs) (back key stretch e) (past key stretch e)),
       are_apart xs tail (λ key stretch e. some key stretch (back key stretch e))
           (λ low high first second k l lt. apart low high first second (back low first k) (back high second l) lt),
     )
 
 -- so those of a map of such ranges lie apart
-kept_apart : (kept : BTreeMap ℕ Stretch) → IsApart kept → AreApart (values_of kept.entries)
+kept_apart : (kept : BTreeMap ℕ Stretch) → range_map.IsApart kept → laws.AreApart (values_of kept.entries)
 kept_apart kept h =
     are_apart kept.entries h.ordered (λ key stretch l. let a = h.from key stretch l in let b = h.to key stretch l in omega arith)
     (λ low high first second k l lt. h.apart low high first second k l lt)
@@ -69,7 +69,7 @@ values_length [] = refl
 values_length (x ∷ xs) = ap suc (values_length xs)
 
 -- the law
-pub ranges_lie_apart : (set : MergedRanges) → HasRangesApart set
+pub ranges_lie_apart : (set : MergedRanges) → laws.HasRangesApart set
 ranges_lie_apart set = record {
   apart = kept_apart set.kept set.apart;
   numbers = λ n. refl;

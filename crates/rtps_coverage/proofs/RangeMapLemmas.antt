@@ -15,8 +15,8 @@ use Rattle.std.proofs.lemmas.Bool.{cases_lt, false≢true, or_right}
 use Rattle.std.proofs.lemmas.Bool.Decides.{nat_tests}
 use Rattle.std.proofs.lemmas.Option.{none-some, same_Some}
 use Rattle.std.proofs.lemmas.List.Folds.{list_any_none}
-use Rattle.rtps_coverage.specs.Stretches.{stretch_has}
-use Rattle.rtps_coverage.specs.RangeMap.{IsApart, HasRange, IsLastUpTo, IsFirstPast, IsRangeWith, IsClear, IsLastRange, kept_has, values_all}
+use Rattle.rtps_coverage.specs.Stretches as stretches
+use Rattle.rtps_coverage.specs.RangeMap as range_map
 use Rattle.rtps_coverage.specs.declared.stretch.Stretch.{Stretch}
 
 -- ---- comparisons of keys
@@ -36,17 +36,17 @@ not_at a b lt = ap is_eq (sym (nat_cmp_is a b Greater lt))
 -- ---- which numbers the ranges have
 
 -- none has a number that the range of no key has
-pub none_has : (kept : BTreeMap ℕ Stretch) (n : ℕ) → IsOrdered nat_cmp kept → ((key : ℕ) (stretch : Stretch) → HasRange kept key stretch → stretch_has n stretch ≡ false) → kept_has kept n ≡ false
-none_has kept n ordered f = list_any_none (stretch_has n) (values kept) (values_all kept.entries (λ stretch. stretch_has n stretch ≡ false) ordered f)
+pub none_has : (kept : BTreeMap ℕ Stretch) (n : ℕ) → IsOrdered nat_cmp kept → ((key : ℕ) (stretch : Stretch) → range_map.HasRange kept key stretch → stretches.stretch_has n stretch ≡ false) → range_map.kept_has kept n ≡ false
+none_has kept n ordered f = list_any_none (stretches.stretch_has n) (values kept) (range_map.values_all kept.entries (λ stretch. stretches.stretch_has n stretch ≡ false) ordered f)
 
 -- some range has each number that the range of a key has
-pub some_has : (n key : ℕ) (stretch : Stretch) (es : List (ℕ × Stretch)) → lookup (is_at (nat_cmp key)) es ≡ Some stretch → stretch_has n stretch ≡ true → list_any (stretch_has n) (values_of es) ≡ true
+pub some_has : (n key : ℕ) (stretch : Stretch) (es : List (ℕ × Stretch)) → lookup (is_at (nat_cmp key)) es ≡ Some stretch → stretches.stretch_has n stretch ≡ true → list_any (stretches.stretch_has n) (values_of es) ≡ true
 some_has n key stretch [] e h = absurd (none-some stretch e)
 some_has n key stretch (x ∷ xs) e h = step (λ k. some_has n key stretch xs k h) (is_at (nat_cmp key) x.0) e
   where
-    step : (lookup (is_at (nat_cmp key)) xs ≡ Some stretch → list_any (stretch_has n) (values_of xs) ≡ true) → (b : Bool) → cond b (Some x.1) (lookup (is_at (nat_cmp key)) xs) ≡ Some stretch → (stretch_has n x.1 || list_any (stretch_has n) (values_of xs)) ≡ true
-    step rest true k = ap (λ (s : Stretch). stretch_has n s || list_any (stretch_has n) (values_of xs)) (same_Some x.1 stretch k) ∙ ap (λ b. b || list_any (stretch_has n) (values_of xs)) h
-    step rest false k = or_right (stretch_has n x.1) _ (rest k)
+    step : (lookup (is_at (nat_cmp key)) xs ≡ Some stretch → list_any (stretches.stretch_has n) (values_of xs) ≡ true) → (b : Bool) → cond b (Some x.1) (lookup (is_at (nat_cmp key)) xs) ≡ Some stretch → (stretches.stretch_has n x.1 || list_any (stretches.stretch_has n) (values_of xs)) ≡ true
+    step rest true k = ap (λ (s : Stretch). stretches.stretch_has n s || list_any (stretches.stretch_has n) (values_of xs)) (same_Some x.1 stretch k) ∙ ap (λ b. b || list_any (stretches.stretch_has n) (values_of xs)) h
+    step rest false k = or_right (stretches.stretch_has n x.1) _ (rest k)
 
 -- ---- the numbers of the ranges after a change of the map
 
@@ -57,15 +57,15 @@ or_assoc false b c d e = e
 
 -- a removal takes the numbers of one range
 pub removal_has : (n : ℕ) (test : ℕ → Bool) (es : List (ℕ × Stretch)) (stretch : Stretch) → lookup test es ≡ Some stretch
-    → list_any (stretch_has n) (values_of es) ≡ (list_any (stretch_has n) (values_of (remove_entry test es)) || stretch_has n stretch)
+    → list_any (stretches.stretch_has n) (values_of es) ≡ (list_any (stretches.stretch_has n) (values_of (remove_entry test es)) || stretches.stretch_has n stretch)
 removal_has n test [] stretch e = absurd (none-some stretch e)
 removal_has n test (x ∷ xs) stretch e = step (λ k. removal_has n test xs stretch k) (test x.0) e
   where
-    step : (lookup test xs ≡ Some stretch → list_any (stretch_has n) (values_of xs) ≡ (list_any (stretch_has n) (values_of (remove_entry test xs)) || stretch_has n stretch))
+    step : (lookup test xs ≡ Some stretch → list_any (stretches.stretch_has n) (values_of xs) ≡ (list_any (stretches.stretch_has n) (values_of (remove_entry test xs)) || stretches.stretch_has n stretch))
         → (b : Bool) → cond b (Some x.1) (lookup test xs) ≡ Some stretch
-        → (stretch_has n x.1 || list_any (stretch_has n) (values_of xs)) ≡ (list_any (stretch_has n) (values_of (cond b xs (x ∷ remove_entry test xs))) || stretch_has n stretch)
-    step rest true k = or_comm (stretch_has n x.1) (list_any (stretch_has n) (values_of xs)) ∙ ap (λ (s : Stretch). list_any (stretch_has n) (values_of xs) || stretch_has n s) (same_Some x.1 stretch k)
-    step rest false k = or_assoc (stretch_has n x.1) (list_any (stretch_has n) (values_of (remove_entry test xs))) (stretch_has n stretch) _ (rest k)
+        → (stretches.stretch_has n x.1 || list_any (stretches.stretch_has n) (values_of xs)) ≡ (list_any (stretches.stretch_has n) (values_of (cond b xs (x ∷ remove_entry test xs))) || stretches.stretch_has n stretch)
+    step rest true k = or_comm (stretches.stretch_has n x.1) (list_any (stretches.stretch_has n) (values_of xs)) ∙ ap (λ (s : Stretch). list_any (stretches.stretch_has n) (values_of xs) || stretches.stretch_has n s) (same_Some x.1 stretch k)
+    step rest false k = or_assoc (stretches.stretch_has n x.1) (list_any (stretches.stretch_has n) (values_of (remove_entry test xs))) (stretches.stretch_has n stretch) _ (rest k)
 
 -- the first test may be left out where the last holds whenever it does
 swap_in : (a b c : Bool) → (a ≡ true → b ≡ true) → (b || c) ≡ ((a || c) || b)
@@ -73,38 +73,38 @@ swap_in true b c f = rw (f refl) refl
 swap_in false b c f = or_comm b c
 
 -- an insertion adds the numbers of a range, where the range that had its key lies in it
-pub insertion_has : (n key : ℕ) (stretch : Stretch) (es : List (ℕ × Stretch)) → ((old : Stretch) → lookup (is_at (nat_cmp key)) es ≡ Some old → stretch_has n old ≡ true → stretch_has n stretch ≡ true)
-    → list_any (stretch_has n) (values_of (insert_entry nat_cmp es key stretch)) ≡ (list_any (stretch_has n) (values_of es) || stretch_has n stretch)
-insertion_has n key stretch [] f = or_comm (stretch_has n stretch) false
+pub insertion_has : (n key : ℕ) (stretch : Stretch) (es : List (ℕ × Stretch)) → ((old : Stretch) → lookup (is_at (nat_cmp key)) es ≡ Some old → stretches.stretch_has n old ≡ true → stretches.stretch_has n stretch ≡ true)
+    → list_any (stretches.stretch_has n) (values_of (insert_entry nat_cmp es key stretch)) ≡ (list_any (stretches.stretch_has n) (values_of es) || stretches.stretch_has n stretch)
+insertion_has n key stretch [] f = or_comm (stretches.stretch_has n stretch) false
 insertion_has n key stretch (x ∷ xs) f = step (λ g. insertion_has n key stretch xs g) (nat_cmp key x.0) f
   where
-    step : (((old : Stretch) → lookup (is_at (nat_cmp key)) xs ≡ Some old → stretch_has n old ≡ true → stretch_has n stretch ≡ true)
-        → list_any (stretch_has n) (values_of (insert_entry nat_cmp xs key stretch)) ≡ (list_any (stretch_has n) (values_of xs) || stretch_has n stretch))
-        → (o : Ordering) → ((old : Stretch) → cond (is_eq o) (Some x.1) (lookup (is_at (nat_cmp key)) xs) ≡ Some old → stretch_has n old ≡ true → stretch_has n stretch ≡ true)
-        → list_any (stretch_has n) (values_of (match_ordering o ((key, stretch) ∷ x ∷ xs) ((x.0, stretch) ∷ xs) (x ∷ insert_entry nat_cmp xs key stretch))) ≡ ((stretch_has n x.1 || list_any (stretch_has n) (values_of xs)) || stretch_has n stretch)
-    step rest Less g = or_comm (stretch_has n stretch) (stretch_has n x.1 || list_any (stretch_has n) (values_of xs))
-    step rest Equal g = swap_in (stretch_has n x.1) (stretch_has n stretch) (list_any (stretch_has n) (values_of xs)) (g x.1 refl)
-    step rest Greater g = or_assoc (stretch_has n x.1) (list_any (stretch_has n) (values_of xs)) (stretch_has n stretch) _ (rest g)
+    step : (((old : Stretch) → lookup (is_at (nat_cmp key)) xs ≡ Some old → stretches.stretch_has n old ≡ true → stretches.stretch_has n stretch ≡ true)
+        → list_any (stretches.stretch_has n) (values_of (insert_entry nat_cmp xs key stretch)) ≡ (list_any (stretches.stretch_has n) (values_of xs) || stretches.stretch_has n stretch))
+        → (o : Ordering) → ((old : Stretch) → cond (is_eq o) (Some x.1) (lookup (is_at (nat_cmp key)) xs) ≡ Some old → stretches.stretch_has n old ≡ true → stretches.stretch_has n stretch ≡ true)
+        → list_any (stretches.stretch_has n) (values_of (match_ordering o ((key, stretch) ∷ x ∷ xs) ((x.0, stretch) ∷ xs) (x ∷ insert_entry nat_cmp xs key stretch))) ≡ ((stretches.stretch_has n x.1 || list_any (stretches.stretch_has n) (values_of xs)) || stretches.stretch_has n stretch)
+    step rest Less g = or_comm (stretches.stretch_has n stretch) (stretches.stretch_has n x.1 || list_any (stretches.stretch_has n) (values_of xs))
+    step rest Equal g = swap_in (stretches.stretch_has n x.1) (stretches.stretch_has n stretch) (list_any (stretches.stretch_has n) (values_of xs)) (g x.1 refl)
+    step rest Greater g = or_assoc (stretches.stretch_has n x.1) (list_any (stretches.stretch_has n) (values_of xs)) (stretches.stretch_has n stretch) _ (rest g)
 
 -- a write adds the numbers of a range, where the range that had the key lies in it
 pub replacing_has : (n key : ℕ) (now : Stretch) (es : List (ℕ × Stretch)) → is_some (lookup (is_at (nat_cmp key)) es) ≡ true
-    → ((old : Stretch) → lookup (is_at (nat_cmp key)) es ≡ Some old → stretch_has n old ≡ true → stretch_has n now ≡ true)
-    → list_any (stretch_has n) (values_of (set_value (is_at (nat_cmp key)) es now)) ≡ (list_any (stretch_has n) (values_of es) || stretch_has n now)
+    → ((old : Stretch) → lookup (is_at (nat_cmp key)) es ≡ Some old → stretches.stretch_has n old ≡ true → stretches.stretch_has n now ≡ true)
+    → list_any (stretches.stretch_has n) (values_of (set_value (is_at (nat_cmp key)) es now)) ≡ (list_any (stretches.stretch_has n) (values_of es) || stretches.stretch_has n now)
 replacing_has n key now [] there f = absurd (false≢true there)
 replacing_has n key now (x ∷ xs) there f = step (λ t g. replacing_has n key now xs t g) (is_at (nat_cmp key) x.0) there f
   where
-    step : (is_some (lookup (is_at (nat_cmp key)) xs) ≡ true → ((old : Stretch) → lookup (is_at (nat_cmp key)) xs ≡ Some old → stretch_has n old ≡ true → stretch_has n now ≡ true)
-        → list_any (stretch_has n) (values_of (set_value (is_at (nat_cmp key)) xs now)) ≡ (list_any (stretch_has n) (values_of xs) || stretch_has n now))
+    step : (is_some (lookup (is_at (nat_cmp key)) xs) ≡ true → ((old : Stretch) → lookup (is_at (nat_cmp key)) xs ≡ Some old → stretches.stretch_has n old ≡ true → stretches.stretch_has n now ≡ true)
+        → list_any (stretches.stretch_has n) (values_of (set_value (is_at (nat_cmp key)) xs now)) ≡ (list_any (stretches.stretch_has n) (values_of xs) || stretches.stretch_has n now))
         → (b : Bool) → is_some (cond b (Some x.1) (lookup (is_at (nat_cmp key)) xs)) ≡ true
-        → ((old : Stretch) → cond b (Some x.1) (lookup (is_at (nat_cmp key)) xs) ≡ Some old → stretch_has n old ≡ true → stretch_has n now ≡ true)
-        → list_any (stretch_has n) (values_of (cond b ((x.0, now) ∷ xs) (x ∷ set_value (is_at (nat_cmp key)) xs now))) ≡ ((stretch_has n x.1 || list_any (stretch_has n) (values_of xs)) || stretch_has n now)
-    step rest true t g = swap_in (stretch_has n x.1) (stretch_has n now) (list_any (stretch_has n) (values_of xs)) (g x.1 refl)
-    step rest false t g = or_assoc (stretch_has n x.1) (list_any (stretch_has n) (values_of xs)) (stretch_has n now) _ (rest t g)
+        → ((old : Stretch) → cond b (Some x.1) (lookup (is_at (nat_cmp key)) xs) ≡ Some old → stretches.stretch_has n old ≡ true → stretches.stretch_has n now ≡ true)
+        → list_any (stretches.stretch_has n) (values_of (cond b ((x.0, now) ∷ xs) (x ∷ set_value (is_at (nat_cmp key)) xs now))) ≡ ((stretches.stretch_has n x.1 || list_any (stretches.stretch_has n) (values_of xs)) || stretches.stretch_has n now)
+    step rest true t g = swap_in (stretches.stretch_has n x.1) (stretches.stretch_has n now) (list_any (stretches.stretch_has n) (values_of xs)) (g x.1 refl)
+    step rest false t g = or_assoc (stretches.stretch_has n x.1) (list_any (stretches.stretch_has n) (values_of xs)) (stretches.stretch_has n now) _ (rest t g)
 
 -- ---- the ranges after a removal
 
 -- what is left was there before
-pub kept_after_removal : (old new : BTreeMap ℕ Stretch) (gone : ℕ) → Updates nat_cmp old new gone None → (key : ℕ) (stretch : Stretch) → HasRange new key stretch → HasRange old key stretch
+pub kept_after_removal : (old new : BTreeMap ℕ Stretch) (gone : ℕ) → Updates nat_cmp old new gone None → (key : ℕ) (stretch : Stretch) → range_map.HasRange new key stretch → range_map.HasRange old key stretch
 kept_after_removal old new gone updates key stretch e = step (is_eq (nat_cmp gone key)) (sym (updates.0 key) ∙ e)
   where
     step : (b : Bool) → cond b None (tree.get nat_cmp old key) ≡ Some stretch → tree.get nat_cmp old key ≡ Some stretch
@@ -112,11 +112,11 @@ kept_after_removal old new gone updates key stretch e = step (is_eq (nat_cmp gon
     step false k = k
 
 -- a range of a lower key stays
-pub stays_after_removal : (old new : BTreeMap ℕ Stretch) (gone : ℕ) → Updates nat_cmp old new gone None → (key : ℕ) (stretch : Stretch) → key < gone → HasRange old key stretch → HasRange new key stretch
+pub stays_after_removal : (old new : BTreeMap ℕ Stretch) (gone : ℕ) → Updates nat_cmp old new gone None → (key : ℕ) (stretch : Stretch) → key < gone → range_map.HasRange old key stretch → range_map.HasRange new key stretch
 stays_after_removal old new gone updates key stretch lt e = updates.2 key (not_at gone key lt) ∙ e
 
 -- the ranges that are left lie apart
-pub removal_apart : (old new : BTreeMap ℕ Stretch) (gone : ℕ) → IsApart old → Updates nat_cmp old new gone None → IsOrdered nat_cmp new → IsApart new
+pub removal_apart : (old new : BTreeMap ℕ Stretch) (gone : ℕ) → range_map.IsApart old → Updates nat_cmp old new gone None → IsOrdered nat_cmp new → range_map.IsApart new
 removal_apart old new gone h updates ordered =
     let back = kept_after_removal old new gone updates in record {
       ordered = ordered;
@@ -143,23 +143,23 @@ pub in_larger : (n lo hi low high : ℕ) → low ≤ lo → hi ≤ high → (nat
 in_larger n lo hi low high a b h = grind (arith, nat_tests)
 
 -- a range has a number that lies in it
-pub is_in : (n : ℕ) (stretch : Stretch) → stretch.lo ≤ n → n < stretch.hi → stretch_has n stretch ≡ true
+pub is_in : (n : ℕ) (stretch : Stretch) → stretch.lo ≤ n → n < stretch.hi → stretches.stretch_has n stretch ≡ true
 is_in n stretch a b = within n stretch.lo stretch.hi a b
 
 -- and none below it
-pub not_below : (n : ℕ) (stretch : Stretch) → n < stretch.lo → stretch_has n stretch ≡ false
+pub not_below : (n : ℕ) (stretch : Stretch) → n < stretch.lo → stretches.stretch_has n stretch ≡ false
 not_below n stretch a = without n stretch.lo stretch.hi (inl a)
 
 -- nor one at its end or past that
-pub not_past : (n : ℕ) (stretch : Stretch) → stretch.hi ≤ n → stretch_has n stretch ≡ false
+pub not_past : (n : ℕ) (stretch : Stretch) → stretch.hi ≤ n → stretches.stretch_has n stretch ≡ false
 not_past n stretch a = without n stretch.lo stretch.hi (inr a)
 
 -- a key has one range
-kept_once : (kept : BTreeMap ℕ Stretch) (key other : ℕ) (stretch that : Stretch) → HasRange kept key stretch → HasRange kept other that → key ≡ other → stretch ≡ that
+kept_once : (kept : BTreeMap ℕ Stretch) (key other : ℕ) (stretch that : Stretch) → range_map.HasRange kept key stretch → range_map.HasRange kept other that → key ≡ other → stretch ≡ that
 kept_once kept key other stretch that e f same = same_Some stretch that (sym e ∙ ap (λ k. tree.get nat_cmp kept k) same ∙ f)
 
 -- a range that is kept and has a number
-pub range_here : (kept : BTreeMap ℕ Stretch) (n key : ℕ) (stretch : Stretch) → IsApart kept → HasRange kept key stretch → stretch.lo ≤ n → n < stretch.hi → IsRangeWith kept n stretch
+pub range_here : (kept : BTreeMap ℕ Stretch) (n key : ℕ) (stretch : Stretch) → range_map.IsApart kept → range_map.HasRange kept key stretch → stretch.lo ≤ n → n < stretch.hi → range_map.IsRangeWith kept n stretch
 range_here kept n key stretch h e from to = record {
   key = key;
   kept_here = e;
@@ -173,7 +173,7 @@ range_here kept n key stretch h e from to = record {
 -- ---- the ranges before a number and past it
 
 -- of the ranges of keys up to a number, the last one ends last
-pub last_ends : (kept : BTreeMap ℕ Stretch) (n key : ℕ) (stretch : Stretch) → IsApart kept → IsLastUpTo kept n key stretch → (other : ℕ) (that : Stretch) → HasRange kept other that → other ≤ n → that.hi ≤ stretch.hi
+pub last_ends : (kept : BTreeMap ℕ Stretch) (n key : ℕ) (stretch : Stretch) → range_map.IsApart kept → range_map.IsLastUpTo kept n key stretch → (other : ℕ) (that : Stretch) → range_map.HasRange kept other that → other ≤ n → that.hi ≤ stretch.hi
 last_ends kept n key stretch h last other that e le =
     elim (cases_lt other key) [
       | inl lt ↦
@@ -188,7 +188,7 @@ last_ends kept n key stretch h last other that e le =
     ]
 
 -- of the ranges of keys past a number, the first one begins first
-pub first_begins : (kept : BTreeMap ℕ Stretch) (n key : ℕ) (stretch : Stretch) → IsApart kept → IsFirstPast kept n key stretch → (other : ℕ) (that : Stretch) → HasRange kept other that → n < other → stretch.lo ≤ that.lo
+pub first_begins : (kept : BTreeMap ℕ Stretch) (n key : ℕ) (stretch : Stretch) → range_map.IsApart kept → range_map.IsFirstPast kept n key stretch → (other : ℕ) (that : Stretch) → range_map.HasRange kept other that → n < other → stretch.lo ≤ that.lo
 first_begins kept n key stretch h first other that e lt =
     elim (cases_lt key other) [
       | inl below ↦
@@ -206,17 +206,17 @@ first_begins kept n key stretch h first other that e lt =
 
 -- a number at or past the end of the ranges of lower keys, and before the ranges of higher keys
 pub gap_has : (kept : BTreeMap ℕ Stretch) (n : ℕ) → IsOrdered nat_cmp kept
-    → ((key : ℕ) (stretch : Stretch) → HasRange kept key stretch → key ≤ n → stretch.hi ≤ n)
-    → ((key : ℕ) (stretch : Stretch) → HasRange kept key stretch → n < key → n < stretch.lo)
-    → kept_has kept n ≡ false
+    → ((key : ℕ) (stretch : Stretch) → range_map.HasRange kept key stretch → key ≤ n → stretch.hi ≤ n)
+    → ((key : ℕ) (stretch : Stretch) → range_map.HasRange kept key stretch → n < key → n < stretch.lo)
+    → range_map.kept_has kept n ≡ false
 gap_has kept n ordered before after =
     none_has kept n ordered (λ key stretch e. elim (cases_lt n key) [ inl lt ↦ not_below n stretch (after key stretch e lt) | inr le ↦ not_past n stretch (before key stretch e le) ])
 
 -- nor the number at the end of a range
-pub end_outside : (kept : BTreeMap ℕ Stretch) (key : ℕ) (stretch : Stretch) → IsApart kept → HasRange kept key stretch → kept_has kept stretch.hi ≡ false
+pub end_outside : (kept : BTreeMap ℕ Stretch) (key : ℕ) (stretch : Stretch) → range_map.IsApart kept → range_map.HasRange kept key stretch → range_map.kept_has kept stretch.hi ≡ false
 end_outside kept key stretch h e =
     let high = h.to key stretch e in
-    let last : IsLastUpTo kept stretch.hi key stretch = record {
+    let last : range_map.IsLastUpTo kept stretch.hi key stretch = record {
       kept_here = e;
       up_to = omega arith;
       greatest = λ other that f le. elim (cases_lt key other) [
@@ -227,7 +227,7 @@ end_outside kept key stretch h e =
     gap_has kept stretch.hi h.ordered (last_ends kept stretch.hi key stretch h last) (λ other that f lt. h.apart key other stretch that e f (omega arith))
 
 -- nor a number that overlaps or touches what is clear of all ranges
-pub clear_has : (kept : BTreeMap ℕ Stretch) (lo hi n : ℕ) → IsOrdered nat_cmp kept → IsClear kept lo hi → lo ≤ n + 1 → n ≤ hi → kept_has kept n ≡ false
+pub clear_has : (kept : BTreeMap ℕ Stretch) (lo hi n : ℕ) → IsOrdered nat_cmp kept → range_map.IsClear kept lo hi → lo ≤ n + 1 → n ≤ hi → range_map.kept_has kept n ≡ false
 clear_has kept lo hi n ordered clear from to =
     none_has kept n ordered (λ key stretch e. elim (cases_lt lo key) [
       | inl lt ↦ let a = clear.after key stretch e lt in not_below n stretch (omega arith)
@@ -235,7 +235,7 @@ clear_has kept lo hi n ordered clear from to =
     ])
 
 -- what begins past the end of the last range is clear of all
-pub clear_past : (kept : BTreeMap ℕ Stretch) (lo hi key : ℕ) (last : Stretch) → IsApart kept → IsLastRange kept key last → last.hi < lo → IsClear kept lo hi
+pub clear_past : (kept : BTreeMap ℕ Stretch) (lo hi key : ℕ) (last : Stretch) → range_map.IsApart kept → range_map.IsLastRange kept key last → last.hi < lo → range_map.IsClear kept lo hi
 clear_past kept lo hi key last h is past = record {
   before = λ other that e le. elim (cases_lt other key) [
     | inl lt ↦ let a = h.apart other key that last e is.kept_here lt in let b = h.from key last is.kept_here in let d = h.to key last is.kept_here in omega arith

@@ -9,14 +9,14 @@ use Rattle.std.proofs.lemmas.List.{get_or_default, length-append, take_more, get
 use Rattle.std.proofs.lemmas.List.Folds.{Any-from_list_any, list_any-append, list_any_at}
 use Rattle.std.proofs.lemmas.List.Sorted.{IsNonDecreasingBy-push}
 use Rattle.std.specs.Cmp.{both_ways}
-use Rattle.rtps_coverage.specs.Rising.{AreRising, reaches, some_reaches}
+use Rattle.rtps_coverage.specs.Rising as rising_spec
 use Rattle.rtps_coverage.specs.declared.stretch.Stretch.{Stretch}
 
 -- what the first `i` sorted stretches are made to, where `hi` is the greatest of their ends
 pub record IsRisen (sorted : List Stretch) (i hi : ℕ) (risen : List Stretch) : Type 0 where
   pub count : length risen ≡ i
-  pub rising : AreRising risen
-  pub same : (key n : ℕ) → some_reaches risen key n ≡ some_reaches (take i sorted) key n
+  pub rising : rising_spec.AreRising risen
+  pub same : (key n : ℕ) → rising_spec.some_reaches risen key n ≡ rising_spec.some_reaches (take i sorted) key n
   pub none : i ≡ 0 → hi ≡ 0
   pub last_lo : (d : Stretch) → 0 < i → (get_or risen (i - 1) d).lo ≡ (get_or sorted (i - 1) d).lo
   pub last_hi : (d : Stretch) → 0 < i → (get_or risen (i - 1) d).hi ≡ hi
@@ -45,14 +45,14 @@ risen_more sorted i hi risen new x top in_order lt at is greatest so_far =
         hi = IsNonDecreasingBy-push (λ (s : Stretch). s.hi) risen added so_far.rising.hi (λ d some. hi_up d some);
       };
       same = λ key n.
-          list_any-append (reaches key n) risen (added ∷ [])
-          ∙ ap (λ b. some_reaches risen key n || b) (or-false (reaches key n added))
-          ∙ one_more (some_reaches risen key n) x.lo key n hi x.hi top greatest (covered key n)
-          ∙ ap (λ b. b || reaches key n x) (so_far.same key n)
-          ∙ sym (ap (λ b. some_reaches (take i sorted) key n || b) (or-false (reaches key n x)))
-          ∙ sym (list_any-append (reaches key n) (take i sorted) (x ∷ []))
-          ∙ ap (λ y. some_reaches (take i sorted ++ y ∷ []) key n) at
-          ∙ sym (ap (λ l. some_reaches l key n) (take_more sorted i x lt));
+          list_any-append (rising_spec.reaches key n) risen (added ∷ [])
+          ∙ ap (λ b. rising_spec.some_reaches risen key n || b) (or-false (rising_spec.reaches key n added))
+          ∙ one_more (rising_spec.some_reaches risen key n) x.lo key n hi x.hi top greatest (covered key n)
+          ∙ ap (λ b. b || rising_spec.reaches key n x) (so_far.same key n)
+          ∙ sym (ap (λ b. rising_spec.some_reaches (take i sorted) key n || b) (or-false (rising_spec.reaches key n x)))
+          ∙ sym (list_any-append (rising_spec.reaches key n) (take i sorted) (x ∷ []))
+          ∙ ap (λ y. rising_spec.some_reaches (take i sorted ++ y ∷ []) key n) at
+          ∙ sym (ap (λ l. rising_spec.some_reaches l key n) (take_more sorted i x lt));
       none = λ zero. absurd (omega arith);
       last_lo = λ d some. (let e : i + 1 - 1 ≡ i = omega arith in ap (λ k. (get_or (risen ++ added ∷ []) k d).lo) e) ∙ ap (λ (s : Stretch). s.lo) (here d) ∙ lo_at d;
       last_hi = λ d some. (let e : i + 1 - 1 ≡ i = omega arith in ap (λ k. (get_or (risen ++ added ∷ []) k d).hi) e) ∙ ap (λ (s : Stretch). s.hi) (here d);
@@ -91,7 +91,7 @@ risen_more sorted i hi risen new x top in_order lt at is greatest so_far =
         let last = so_far.last_hi d (omega arith) in
         omega arith
 
-    covered : (key n : ℕ) → x.lo ≤ key → n < hi → some_reaches risen key n ≡ true
+    covered : (key n : ℕ) → x.lo ≤ key → n < hi → rising_spec.some_reaches risen key n ≡ true
     covered key n begun reached = elim (cases_lt 0 i) [
       | inl some ↦
           let count = so_far.count in
@@ -100,18 +100,18 @@ risen_more sorted i hi risen new x top in_order lt at is greatest so_far =
           let le = before_lo no_stretch some in
           let begins : (get_or risen (i - 1) no_stretch).lo ≤ key = omega arith in
           let ends : n < (get_or risen (i - 1) no_stretch).hi = omega arith in
-          list_any_at (reaches key n) risen (i - 1) no_stretch (omega arith) (grind (arith, nat_tests, begins, ends))
+          list_any_at (rising_spec.reaches key n) risen (i - 1) no_stretch (omega arith) (grind (arith, nat_tests, begins, ends))
       | inr none ↦ let zero : hi ≡ 0 = so_far.none (omega arith) in absurd (omega arith)
     ]
 
 -- ---- by a key
 
 -- a stretch that begins up to the key stands before the place
-stands_before : (stretches : List Stretch) (key place n : ℕ) → IsPartitionPoint (λ (s : Stretch). nat_le s.lo key ≡ true) (λ (s : Stretch). nat_le s.lo key ≡ false) stretches place → some_reaches stretches key n ≡ true
+stands_before : (stretches : List Stretch) (key place n : ℕ) → IsPartitionPoint (λ (s : Stretch). nat_le s.lo key ≡ true) (λ (s : Stretch). nat_le s.lo key ≡ false) stretches place → rising_spec.some_reaches stretches key n ≡ true
     → (k : ℕ) × (k < place) × (k < length stretches) × (n < (get_or stretches k no_stretch).hi)
-stands_before stretches key place n point some = at (Any-from_list_any (reaches key n) stretches some)
+stands_before stretches key place n point some = at (Any-from_list_any (rising_spec.reaches key n) stretches some)
   where
-    at : Any (λ x. reaches key n x ≡ true) stretches → (k : ℕ) × (k < place) × (k < length stretches) × (n < (get_or stretches k no_stretch).hi)
+    at : Any (λ x. rising_spec.reaches key n x ≡ true) stretches → (k : ℕ) × (k < place) × (k < length stretches) × (n < (get_or stretches k no_stretch).hi)
     at (k, x, lt, e, passes) =
         let tests = and_parts (nat_le x.lo key) (nat_lt n x.hi) passes in
         let same : get_or stretches k no_stretch ≡ x = get_or_default stretches k no_stretch x lt ∙ e in
@@ -124,18 +124,18 @@ stands_before stretches key place n point some = at (Any-from_list_any (reaches 
         ]
 
 pub none_reaches : (stretches : List Stretch) (key place : ℕ) → IsPartitionPoint (λ (s : Stretch). nat_le s.lo key ≡ true) (λ (s : Stretch). nat_le s.lo key ≡ false) stretches place → place ≡ 0
-    → (n : ℕ) → nat_lt n 0 ≡ some_reaches stretches key n
+    → (n : ℕ) → nat_lt n 0 ≡ rising_spec.some_reaches stretches key n
 none_reaches stretches key place point zero n =
     let not_before : nat_lt n 0 ≡ false = grind (arith, nat_tests) in
-    not_before ∙ sym (false_from_ne_true (some_reaches stretches key n) (λ some. let at = stands_before stretches key place n point some in let lt = at.1 in omega arith))
+    not_before ∙ sym (false_from_ne_true (rising_spec.some_reaches stretches key n) (λ some. let at = stands_before stretches key place n point some in let lt = at.1 in omega arith))
 
-pub last_reaches : (stretches : List Stretch) (key place : ℕ) (d : Stretch) → AreRising stretches → IsPartitionPoint (λ (s : Stretch). nat_le s.lo key ≡ true) (λ (s : Stretch). nat_le s.lo key ≡ false) stretches place
-    → 0 < place → place ≤ length stretches → (n : ℕ) → nat_lt n (get_or stretches (place - 1) d).hi ≡ some_reaches stretches key n
+pub last_reaches : (stretches : List Stretch) (key place : ℕ) (d : Stretch) → rising_spec.AreRising stretches → IsPartitionPoint (λ (s : Stretch). nat_le s.lo key ≡ true) (λ (s : Stretch). nat_le s.lo key ≡ false) stretches place
+    → 0 < place → place ≤ length stretches → (n : ℕ) → nat_lt n (get_or stretches (place - 1) d).hi ≡ rising_spec.some_reaches stretches key n
 last_reaches stretches key place d rising point some within n =
-    both_ways (nat_lt n (get_or stretches (place - 1) d).hi) (some_reaches stretches key n)
+    both_ways (nat_lt n (get_or stretches (place - 1) d).hi) (rising_spec.some_reaches stretches key n)
     (λ is.
     let begins : nat_le (get_or stretches (place - 1) d).lo key ≡ true = point.0 (place - 1) d (omega arith) (omega arith) in
-    list_any_at (reaches key n) stretches (place - 1) d (omega arith) (ap (λ b. b && nat_lt n (get_or stretches (place - 1) d).hi) begins ∙ is))
+    list_any_at (rising_spec.reaches key n) stretches (place - 1) d (omega arith) (ap (λ b. b && nat_lt n (get_or stretches (place - 1) d).hi) begins ∙ is))
     (λ is.
     let at = stands_before stretches key place n point is in
     let before = at.1 in

@@ -2,14 +2,14 @@
 -- own: so many ranges are kept as there are gaps between numbers, in whatever order the numbers came.
 use Rattle.std.specs.Prelude.{ℕ, Bool, true, ◌≡◌, ◌≤◌, ◌<◌, ◌+◌, ◌-◌, ◌^◌, ℤ, pos, ◌≤ℤ◌, List}
 use Rattle.std.specs.BTreeMap.{btree_map_len, values}
-use Rattle.rtps_coverage.specs.Stretches.{IsBounded, stretches_in_range}
-use Rattle.rtps_coverage.specs.RangeMap.{kept_has, values_all}
+use Rattle.rtps_coverage.specs.Stretches as stretches
+use Rattle.rtps_coverage.specs.RangeMap as range_map
 use Rattle.rtps_coverage.specs.declared.stretch.Stretch.{Stretch}
 use Rattle.rtps_coverage.specs.declared.merged_ranges.MergedRanges.{MergedRanges}
 
 -- the numbers of the ranges
 abbrev pub covered_of : MergedRanges → ℕ → Bool
-covered_of set n = kept_has set.kept n
+covered_of set n = range_map.kept_has set.kept n
 
 -- the ranges, in the order of their numbers
 abbrev pub ranges_of : MergedRanges → List Stretch
@@ -29,5 +29,5 @@ pub record Touches (set : ℕ → Bool) (lo hi : ℤ) : Type 0 where
 -- the set has numbers from 1 to 2^63 - 2
 pub covered_in_range : (set : MergedRanges) (n : ℕ) → covered_of set n ≡ true → (1 ≤ n) × (n < 2 ^ 63 - 1)
 covered_in_range set n h =
-    stretches_in_range n (ranges_of set)
-    (values_all set.kept.entries IsBounded set.apart.ordered (λ key stretch e. record { positive = set.apart.positive key stretch e; bounded = set.apart.bounded key stretch e })) h
+    stretches.stretches_in_range n (ranges_of set)
+    (range_map.values_all set.kept.entries stretches.IsBounded set.apart.ordered (λ key stretch e. record { positive = set.apart.positive key stretch e; bounded = set.apart.bounded key stretch e })) h

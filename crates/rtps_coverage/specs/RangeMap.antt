@@ -10,12 +10,12 @@ use Rattle.std.specs.Ordering.{nat_cmp}
 use Rattle.std.proofs.lemmas.Cmp.{nat_cmp_total}
 use Rattle.std.proofs.lemmas.Map.Keys.{IsDistinct-from_sorted}
 use Rattle.std.proofs.lemmas.Map.Views.{All-values_from_lookup}
-use Rattle.rtps_coverage.specs.Stretches.{stretches_have}
+use Rattle.rtps_coverage.specs.Stretches as stretches
 use Rattle.rtps_coverage.specs.declared.stretch.Stretch.{Stretch}
 
 -- whether some range of the map has a number
 abbrev pub kept_has : BTreeMap ℕ Stretch → ℕ → Bool
-kept_has kept n = stretches_have (values kept) n
+kept_has kept n = stretches.stretches_have (values kept) n
 
 -- the map has the range at the key
 abbrev pub HasRange : BTreeMap ℕ Stretch → ℕ → Stretch → Type 0

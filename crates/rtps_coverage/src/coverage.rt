@@ -1,5 +1,5 @@
 ghost use Rattle.std.specs.Prelude.{ℕ, Bool, true, false, ◌≡◌, ◌≤◌, ◌<◌, ◌-◌, ◌^◌, ◌≤ℤ◌, pos, OnOk, OnErr};
-ghost use Rattle.rtps_coverage.specs.Coverage.{JoinsRange, IsSameSet, has, IsFront};
+ghost use Rattle.rtps_coverage.specs.Coverage as coverage;
 
 use rtps_ids::Memory;
 use std::alloc::Global;
@@ -20,16 +20,16 @@ pub trait Coverage: Sized + Drop {
     fn add(&mut self, lo: i64, hi: i64) -> Result<(), Memory>
         requires positive { pos 1 ≤ℤ lo }
         requires ordered { lo ≤ℤ hi }
-        ensures ok { OnOk result (JoinsRange (covered self.old) (covered self.new) lo hi) }
-        ensures err { OnErr result (IsSameSet (covered self.old) (covered self.new)) };
+        ensures ok { OnOk result (coverage.JoinsRange (covered self.old) (covered self.new) lo hi) }
+        ensures err { OnErr result (coverage.IsSameSet (covered self.old) (covered self.new)) };
 
     /// The least positive number that is not in the set.
     fn front(&self) -> i64
-        ensures { IsFront (covered self.now) result };
+        ensures { coverage.IsFront (covered self.now) result };
 
     /// Whether the set has the number. It has none below 1.
     fn covers(&self, n: i64) -> bool
-        ensures { result ≡ has (covered self.now) n };
+        ensures { result ≡ coverage.has (covered self.now) n };
 
     /// Each number in a set lies from 1 to 2^63 - 2.
     ghost in_range: { (set : Self) (n : ℕ) → covered set n ≡ true

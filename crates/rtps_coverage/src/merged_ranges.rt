@@ -1,6 +1,6 @@
-ghost use Rattle.std.specs.Prelude.{ℕ, ◌≡◌, ◌==◌, ◌≤◌, ◌<◌, ◌^◌, MatchOption, true, false};
+ghost use Rattle.std.specs.Prelude.{ℕ, ◌≡◌, ◌==◌, ◌≤◌, ◌<◌, MatchOption, false};
 ghost use Rattle.std.proofs.Props.{props};
-ghost use Rattle.rtps_coverage.specs.RangeMap.{IsApart};
+ghost use Rattle.rtps_coverage.specs.RangeMap as range_map;
 
 use crate::coverage::Coverage;
 use crate::range_map::{join, range_with};
@@ -17,47 +17,47 @@ use std::collections::BTreeMap;
 #[derive(Drop)]
 pub struct MergedRanges {
     kept: BTreeMap<u64, Stretch>,
-    ghost apart: { IsApart kept } by { Prim.hlevel props },
+    ghost apart: { range_map.IsApart kept } by { Prim.hlevel props },
 }
 
 impl MergedRanges {
-    ghost use Rattle.rtps_coverage.specs.Coverage.{IsLeastFrom};
-    ghost use Rattle.rtps_coverage.specs.MergedRanges.{count_of, covered_of};
+    ghost use Rattle.rtps_coverage.specs.Coverage as coverage;
+    ghost use Rattle.rtps_coverage.specs.MergedRanges as merged_ranges;
 
     /// The end of the range that has a number.
     pub(crate) fn end_of(&self, n: u64) -> Option<u64>
-        ensures { MatchOption result (covered_of self.now n ≡ false) (λ end. (n < end) × IsLeastFrom (covered_of self.now) n end) }
+        ensures { MatchOption result (merged_ranges.covered_of self.now n ≡ false) (λ end. (n < end) × coverage.IsLeastFrom (merged_ranges.covered_of self.now) n end) }
     {
         Some(range_with(&self.kept, n)?.hi)
     }
 
     /// How many ranges the set has.
     pub fn len(&self) -> usize
-        ensures { result ≡ count_of self.now }
+        ensures { result ≡ merged_ranges.count_of self.now }
     {
         self.kept.len()
     }
 
     /// Whether the set has no range, and so no number.
     pub fn is_empty(&self) -> bool
-        ensures { result ≡ (count_of self.now == 0) }
+        ensures { result ≡ (merged_ranges.count_of self.now == 0) }
     {
         self.kept.is_empty()
     }
 }
 
 impl Coverage for MergedRanges {
-    ghost use Rattle.std.specs.Prelude.{ℕ, ℤ, ◌≡◌, ◌≤◌, ◌+◌, ◌≤ℤ◌, pos, false, IsOk, OnOk, OnErr};
-    ghost use Rattle.rtps_coverage.specs.Coverage.{JoinsRange, IsSameSet};
-    ghost use Rattle.rtps_coverage.specs.MergedRanges.{covered_of, covered_in_range, count_of, Touches};
+    ghost use Rattle.std.specs.Prelude.{ℕ, ◌≡◌, ◌≤◌, ◌+◌, ◌≤ℤ◌, pos, false, IsOk, OnOk, OnErr};
+    ghost use Rattle.rtps_coverage.specs.Coverage as coverage;
+    ghost use Rattle.rtps_coverage.specs.MergedRanges as merged_ranges;
 
-    ghost covered = { covered_of };
+    ghost covered = { merged_ranges.covered_of };
 
-    ghost in_range = { covered_in_range };
+    ghost in_range = { merged_ranges.covered_in_range };
 
     fn empty(alloc: Global) -> Self
-        ensures none { (n : ℕ) → covered_of result n ≡ false }
-        ensures len { count_of result ≡ 0 }
+        ensures none { (n : ℕ) → merged_ranges.covered_of result n ≡ false }
+        ensures len { merged_ranges.count_of result ≡ 0 }
     {
         MergedRanges {
             kept: BTreeMap::new(alloc),
@@ -69,11 +69,11 @@ impl Coverage for MergedRanges {
     fn add(&mut self, lo: i64, hi: i64) -> Result<(), Memory>
         requires positive { pos 1 ≤ℤ lo }
         requires ordered { lo ≤ℤ hi }
-        ensures ok { OnOk result (JoinsRange (covered_of self.old) (covered_of self.new) lo hi) }
-        ensures err { OnErr result (IsSameSet (covered_of self.old) (covered_of self.new) × (count_of self.new ≡ count_of self.old)) }
-        ensures len { count_of self.new ≤ count_of self.old + 1 }
-        ensures nothing { hi ≤ℤ lo → IsOk result × (count_of self.new ≡ count_of self.old) }
-        ensures touching { Touches (covered_of self.old) lo hi → IsOk result × (count_of self.new ≤ count_of self.old) }
+        ensures ok { OnOk result (coverage.JoinsRange (merged_ranges.covered_of self.old) (merged_ranges.covered_of self.new) lo hi) }
+        ensures err { OnErr result (coverage.IsSameSet (merged_ranges.covered_of self.old) (merged_ranges.covered_of self.new) × (merged_ranges.count_of self.new ≡ merged_ranges.count_of self.old)) }
+        ensures len { merged_ranges.count_of self.new ≤ merged_ranges.count_of self.old + 1 }
+        ensures nothing { hi ≤ℤ lo → IsOk result × (merged_ranges.count_of self.new ≡ merged_ranges.count_of self.old) }
+        ensures touching { merged_ranges.Touches (merged_ranges.covered_of self.old) lo hi → IsOk result × (merged_ranges.count_of self.new ≤ merged_ranges.count_of self.old) }
     {
         if hi <= lo {
             return Ok(());

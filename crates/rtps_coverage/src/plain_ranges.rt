@@ -1,7 +1,7 @@
 ghost use Rattle.std.specs.Prelude.{◌≡◌, ◌≤◌, ◌<◌, ◌^◌, false, nat_lt, All};
 ghost use Rattle.std.specs.List.{filter, find};
-ghost use Rattle.rtps_coverage.specs.Coverage.{IsLeastFrom};
-ghost use Rattle.rtps_coverage.specs.Stretches.{stretches_have, stretch_has, IsBounded};
+ghost use Rattle.rtps_coverage.specs.Coverage as coverage;
+ghost use Rattle.rtps_coverage.specs.Stretches as stretches_spec;
 
 use crate::coverage::Coverage;
 use crate::stretch::Stretch;
@@ -18,13 +18,13 @@ pub struct PlainRanges {
     front: u64,
     beyond: Vec<Stretch>,
     ghost front_in_range: { (1 ≤ front) × (front < 2 ^ 63) },
-    ghost beyond_in_range: { All IsBounded beyond.items },
-    ghost front_outside: { stretches_have beyond.items front ≡ false },
+    ghost beyond_in_range: { All stretches_spec.IsBounded beyond.items },
+    ghost front_outside: { stretches_spec.stretches_have beyond.items front ≡ false },
 }
 
 /// The first of the ranges that has the number.
 fn stretch_of(stretches: &[Stretch], number: u64) -> Option<Stretch>
-    ensures { result ≡ find (stretch_has number) stretches.now }
+    ensures { result ≡ find (stretches_spec.stretch_has number) stretches.now }
 {
     stretches
         .iter()
@@ -35,8 +35,8 @@ fn stretch_of(stretches: &[Stretch], number: u64) -> Option<Stretch>
 /// The least number from `front` on that lies in none of the ranges.
 fn reach(front: u64, stretches: &[Stretch]) -> u64
     requires front { front < 2 ^ 63 }
-    requires stretches { All IsBounded stretches.now }
-    ensures { IsLeastFrom (stretches_have stretches.now) front result }
+    requires stretches { All stretches_spec.IsBounded stretches.now }
+    ensures { coverage.IsLeastFrom (stretches_spec.stretches_have stretches.now) front result }
 {
     let mut reached = front;
     while let Some(stretch) = stretch_of(stretches, reached) {
@@ -53,13 +53,12 @@ fn keep_past(stretches: &mut Vec<Stretch>, front: u64)
 }
 
 impl Coverage for PlainRanges {
-    ghost use Rattle.std.specs.Prelude.{ℤ, ◌≡◌, ◌||◌, ◌≤ℤ◌, pos, IsOk, OnOk, OnErr};
-    ghost use Rattle.rtps_coverage.specs.Coverage.{JoinsRange, IsSameSet, IsFront};
-    ghost use Rattle.rtps_coverage.specs.PlainRanges.{covered_of, covered_in_range};
+    ghost use Rattle.std.specs.Prelude.{ℤ, ◌≤ℤ◌, pos, IsOk, OnOk, OnErr};
+    ghost use Rattle.rtps_coverage.specs.PlainRanges as plain_ranges;
 
-    ghost covered = { covered_of };
+    ghost covered = { plain_ranges.covered_of };
 
-    ghost in_range = { covered_in_range };
+    ghost in_range = { plain_ranges.covered_in_range };
 
     fn empty(alloc: Global) -> Self {
         PlainRanges {
@@ -73,9 +72,9 @@ impl Coverage for PlainRanges {
     fn add(&mut self, lo: i64, hi: i64) -> Result<(), Memory>
         requires positive { pos 1 ≤ℤ lo }
         requires ordered { lo ≤ℤ hi }
-        ensures ok { OnOk result (JoinsRange (covered_of self.old) (covered_of self.new) lo hi) }
-        ensures err { OnErr result (IsSameSet (covered_of self.old) (covered_of self.new)) }
-        ensures in_order { (front : ℤ) → IsFront (covered_of self.old) front → lo ≤ℤ front
+        ensures ok { OnOk result (coverage.JoinsRange (plain_ranges.covered_of self.old) (plain_ranges.covered_of self.new) lo hi) }
+        ensures err { OnErr result (coverage.IsSameSet (plain_ranges.covered_of self.old) (plain_ranges.covered_of self.new)) }
+        ensures in_order { (front : ℤ) → coverage.IsFront (plain_ranges.covered_of self.old) front → lo ≤ℤ front
             → IsOk result }
     {
         let lo = lo.cast_unsigned();

@@ -7,7 +7,7 @@ use Rattle.std.proofs.lemmas.Simd.{Each1-get_or, length-put_chunk, put_chunk_is,
 use Rattle.std.specs.Simd.Lanes.{Each1, put_chunk, zip2, sel_l, top}
 use Rattle.hex.specs.Hex.{encode_lower, encode_with, lower_digits}
 use borrow.Rule.Slice.PartMut.{put_mid}
-use Rattle.rtps_digits.specs.Pairs.{half_digit}
+use Rattle.rtps_digits.specs.Pairs as pairs
 
 -- the lanes of a comparison choose as the comparison does
 chosen : (b : Bool) (x y : ℕ) → cond (top 7 (cond b 255 0)) x y ≡ cond b x y
@@ -20,7 +20,7 @@ chosen_digits vs n =
     sel_l (map (top 7) (zip2 (λ a b. cond (ltb a b) 255 0) vs (replicate n 10)))
     (zip2 (λ a b. (a + b) % 256) vs (replicate n 48)) (zip2 (λ a b. (a + b) % 256) vs (replicate n 87))
 
-pub chosen_digits_are : (vs : List ℕ) → chosen_digits vs (length vs) ≡ map half_digit vs
+pub chosen_digits_are : (vs : List ℕ) → chosen_digits vs (length vs) ≡ map pairs.half_digit vs
 chosen_digits_are [] = refl
 chosen_digits_are (v ∷ vs) = λ i. chosen (ltb v 10) ((v + 48) % 256) ((v + 87) % 256) i ∷ chosen_digits_are vs i
 
@@ -28,12 +28,12 @@ chosen_digits_are (v ∷ vs) = λ i. chosen (ltb v 10) ((v + 48) % 256) ((v + 87
 
 abbrev all_agree : ℕ → Bool
 all_agree zero = true
-all_agree (suc n) = eqb (half_digit n) (slice_index lower_digits n) && all_agree n
+all_agree (suc n) = eqb (pairs.half_digit n) (slice_index lower_digits n) && all_agree n
 
-all_agree-at : (n k : ℕ) → all_agree n ≡ true → k < n → half_digit k ≡ slice_index lower_digits k
+all_agree-at : (n k : ℕ) → all_agree n ≡ true → k < n → pairs.half_digit k ≡ slice_index lower_digits k
 all_agree-at zero k h lt = absurd (omega arith)
 all_agree-at (suc n) k h lt =
-    let parts = and_parts (eqb (half_digit n) (slice_index lower_digits n)) (all_agree n) h in
+    let parts = and_parts (eqb (pairs.half_digit n) (slice_index lower_digits n)) (all_agree n) h in
     elim (cases_lt k n) [
       | inl less ↦ all_agree-at n k parts.1 less
       | inr top ↦
@@ -41,16 +41,16 @@ all_agree-at (suc n) k h lt =
           rw e (eqb-true _ _ parts.0)
     ]
 
-digit_is : (d : ℕ) → d < 16 → half_digit d ≡ slice_index lower_digits d
+digit_is : (d : ℕ) → d < 16 → pairs.half_digit d ≡ slice_index lower_digits d
 digit_is d lt = all_agree-at 16 d refl lt
 
 -- ---- the digits in turn
 
 abbrev pub first_digit : ℕ → ℕ
-first_digit octet = half_digit (octet / 16)
+first_digit octet = pairs.half_digit (octet / 16)
 
 abbrev pub second_digit : ℕ → ℕ
-second_digit octet = half_digit (bit_and octet 15)
+second_digit octet = pairs.half_digit (bit_and octet 15)
 
 -- n pairs from place i on: a lane, and the one 16 behind it
 abbrev pub woven : List ℕ → ℕ → ℕ → List ℕ
@@ -85,7 +85,7 @@ encoded octets long fits =
     let small : octet < 256 = (Each1-get_or (Fits w8) octets k 0 less fits).fits in (
       get_or_append_left first second 0 k (omega arith) ∙ get_or-map first_digit octets k 0 0 less ∙ digit_is (octet / 16) (omega arith),
       subst (λ n. get_or (first ++ second) (n + k) 0 ≡ get_or second k 0) size (get_or-append-add first second k 0)
-          ∙ get_or-map second_digit octets k 0 0 less ∙ ap half_digit (and_mask octet 4) ∙ digit_is (octet % 16) (omega arith),
+          ∙ get_or-map second_digit octets k 0 0 less ∙ ap pairs.half_digit (and_mask octet 4) ∙ digit_is (octet % 16) (omega arith),
     ))
 
 -- ---- two vectors, stored one behind the other

@@ -6,7 +6,7 @@ use Rattle.std.proofs.lemmas.Simd.{mask_l-mod, tops_compared, zip2_splat_left}
 use Rattle.std.specs.List.{list_all}
 use Rattle.std.specs.Simd.Lanes.{Each1, zip2, sel_l, mask_l, top}
 use Rattle.hex.specs.Hex.{is_hex_digit}
-use Rattle.rtps_digits.specs.Pairs.{digit_value, is_low, join, lane_value, pairs_of, pairs_with}
+use Rattle.rtps_digits.specs.Pairs as pairs
 
 -- the lanes of a comparison choose as the comparison does
 chosen : (b : Bool) (x y : ℕ) → cond (top 7 (cond b 255 0)) x y ≡ cond b x y
@@ -36,14 +36,14 @@ lane_of : (d l : ℕ)
 lane_of d l =
     chosen (ltb d 10) d _ ∙ ap (λ (x : ℕ). cond (ltb d 10) d ((x + 10) % 256)) (chosen (ltb l 6) l 6)
 
-pub computed_is : (vs : List ℕ) → computed vs (length vs) ≡ map lane_value vs
+pub computed_is : (vs : List ℕ) → computed vs (length vs) ≡ map pairs.lane_value vs
 computed_is [] = refl
 computed_is (v ∷ vs) = λ i. lane_of ((v + 208) % 256) ((bit_and v 223 + 191) % 256) i ∷ computed_is vs i
 
 -- ---- a lane's value against the digit's
 
 abbrev agrees : ℕ → Bool
-agrees c = cond (is_hex_digit c) (eqb (lane_value c) (digit_value c) && is_low (lane_value c)) (not (is_low (lane_value c)))
+agrees c = cond (is_hex_digit c) (eqb (pairs.lane_value c) (pairs.digit_value c) && pairs.is_low (pairs.lane_value c)) (not (pairs.is_low (pairs.lane_value c)))
 
 abbrev all_agree : ℕ → Bool
 all_agree zero = true
@@ -72,32 +72,32 @@ same_parts : (h e low : Bool) → cond h (e && low) (not low) ≡ true → h ≡
 same_parts true e low is t = and_parts e low is
 same_parts false e low is t = cc t
 
-pub lane-low : (c : ℕ) → c < 256 → is_low (lane_value c) ≡ is_hex_digit c
-lane-low c lt = low_parts (is_hex_digit c) _ (is_low (lane_value c)) (byte_agrees c lt)
+pub lane-low : (c : ℕ) → c < 256 → pairs.is_low (pairs.lane_value c) ≡ is_hex_digit c
+lane-low c lt = low_parts (is_hex_digit c) _ (pairs.is_low (pairs.lane_value c)) (byte_agrees c lt)
 
-lane-digit : (c : ℕ) → c < 256 → is_hex_digit c ≡ true → (lane_value c ≡ digit_value c) × (lane_value c < 16)
+lane-digit : (c : ℕ) → c < 256 → is_hex_digit c ≡ true → (pairs.lane_value c ≡ pairs.digit_value c) × (pairs.lane_value c < 16)
 lane-digit c lt digit =
-    let parts = same_parts (is_hex_digit c) _ (is_low (lane_value c)) (byte_agrees c lt) digit in
-    (eqb-true (lane_value c) (digit_value c) parts.0, ltb-true (lane_value c) 16 parts.1)
+    let parts = same_parts (is_hex_digit c) _ (pairs.is_low (pairs.lane_value c)) (byte_agrees c lt) digit in
+    (eqb-true (pairs.lane_value c) (pairs.digit_value c) parts.0, ltb-true (pairs.lane_value c) 16 parts.1)
 
-pub lanes-low : (vs : List ℕ) → Each1 (λ c. c < 256) vs → list_all is_low (map lane_value vs) ≡ list_all is_hex_digit vs
+pub lanes-low : (vs : List ℕ) → Each1 (λ c. c < 256) vs → list_all pairs.is_low (map pairs.lane_value vs) ≡ list_all is_hex_digit vs
 lanes-low [] h = refl
 lanes-low (v ∷ vs) h = λ i. lane-low v h.0 i && lanes-low vs h.1 i
 
 -- ---- the octets of the lanes
 
-joined_small : (x y : ℕ) → x < 16 → y < 16 → join x y ≡ x * 16 + y
+joined_small : (x y : ℕ) → x < 16 → y < 16 → pairs.join x y ≡ x * 16 + y
 joined_small x y hx hy = omega arith
 
 joined : (a b : ℕ) → a < 256 → b < 256 → is_hex_digit a ≡ true → is_hex_digit b ≡ true
-    → join (lane_value a) (lane_value b) ≡ digit_value a * 16 + digit_value b
+    → pairs.join (pairs.lane_value a) (pairs.lane_value b) ≡ pairs.digit_value a * 16 + pairs.digit_value b
 joined a b ha hb da db =
     let x = lane-digit a ha da in
     let y = lane-digit b hb db in
-    joined_small (lane_value a) (lane_value b) x.1 y.1 ∙ (λ i. x.0 i * 16 + y.0 i)
+    joined_small (pairs.lane_value a) (pairs.lane_value b) x.1 y.1 ∙ (λ i. x.0 i * 16 + y.0 i)
 
 pub pairs_joined : (vs : List ℕ) → Each1 (λ c. c < 256) vs → list_all is_hex_digit vs ≡ true
-    → pairs_with join (map lane_value vs) ≡ pairs_of vs
+    → pairs.pairs_with pairs.join (map pairs.lane_value vs) ≡ pairs.pairs_of vs
 pairs_joined [] h all = refl
 pairs_joined (a ∷ []) h all = refl
 pairs_joined (a ∷ b ∷ vs) h all =
@@ -107,7 +107,7 @@ pairs_joined (a ∷ b ∷ vs) h all =
 
 -- ---- the greater of two lanes
 
-low_both : (a b : ℕ) → is_low (cond (top 7 (below a b)) b a) ≡ (is_low a && is_low b)
+low_both : (a b : ℕ) → pairs.is_low (cond (top 7 (below a b)) b a) ≡ (pairs.is_low a && pairs.is_low b)
 low_both a b = grind arith
 
 swapped : (p q s t : Bool) → ((p && q) && (s && t)) ≡ ((p && s) && (q && t))
@@ -117,25 +117,25 @@ swapped true false false t = refl
 swapped false q s t = refl
 
 pub worse_low : (xs ys : List ℕ) → length xs ≡ length ys
-    → list_all is_low (sel_l (map (top 7) (zip2 below xs ys)) ys xs) ≡ (list_all is_low xs && list_all is_low ys)
+    → list_all pairs.is_low (sel_l (map (top 7) (zip2 below xs ys)) ys xs) ≡ (list_all pairs.is_low xs && list_all pairs.is_low ys)
 worse_low [] [] h = refl
 worse_low [] (y ∷ ys) h = absurd (omega arith)
 worse_low (x ∷ xs) [] h = absurd (omega arith)
 worse_low (x ∷ xs) (y ∷ ys) h =
     (λ i. low_both x y i && worse_low xs ys (omega arith) i)
-    ∙ swapped (is_low x) (is_low y) (list_all is_low xs) (list_all is_low ys)
+    ∙ swapped (pairs.is_low x) (pairs.is_low y) (list_all pairs.is_low xs) (list_all pairs.is_low ys)
 
 -- ---- the mask of the lanes that are not low
 
-no_bit : (v m : ℕ) → eqb (cond (leb 16 v) 1 0 + 2 * m) 0 ≡ (is_low v && eqb m 0)
+no_bit : (v m : ℕ) → eqb (cond (leb 16 v) 1 0 + 2 * m) 0 ≡ (pairs.is_low v && eqb m 0)
 no_bit v m = grind arith
 
-none_high : (vs : List ℕ) → eqb (mask_l (map (λ v. leb 16 v) vs)) 0 ≡ list_all is_low vs
+none_high : (vs : List ℕ) → eqb (mask_l (map (λ v. leb 16 v) vs)) 0 ≡ list_all pairs.is_low vs
 none_high [] = refl
-none_high (v ∷ vs) = no_bit v (mask_l (map (λ v. leb 16 v) vs)) ∙ ap (λ r. is_low v && r) (none_high vs)
+none_high (v ∷ vs) = no_bit v (mask_l (map (λ v. leb 16 v) vs)) ∙ ap (λ r. pairs.is_low v && r) (none_high vs)
 
 pub low_mask : (vs : List ℕ) → length vs ≡ 32
-    → eqb (mask_l (map (top 7) (zip2 (λ a b. cond (leb a b) 255 0) (replicate 32 16) vs)) % 2 ^ 64) 0 ≡ list_all is_low vs
+    → eqb (mask_l (map (top 7) (zip2 (λ a b. cond (leb a b) 255 0) (replicate 32 16) vs)) % 2 ^ 64) 0 ≡ list_all pairs.is_low vs
 low_mask vs long =
     ap (λ ms. eqb (mask_l ms % 2 ^ 64) 0) (tops_compared w8 leb (replicate 32 16) vs ∙ zip2_splat_left leb 16 32 vs long)
     ∙ ap (λ m. eqb m 0) (mask_l-mod (map (λ v. leb 16 v) vs) 64 (omega (arith, length-map vs (λ (v : ℕ). leb 16 v), long)))

@@ -2,17 +2,17 @@
 //! what a digit is and what digits mean.
 #![tactic(auto)]
 
-ghost use Rattle.std.specs.Prelude.{bit_and, ◌≡◌, ◌-◌, ◌*◌, ◌/◌, ◌%◌, ◌≤◌, ◌&&◌, ◌++◌, length, map, take, drop, is_ok, IsTrue};
+ghost use Rattle.std.specs.Prelude.{bit_and, ◌≡◌, ◌-◌, ◌*◌, ◌/◌, ◌≤◌, ◌&&◌, ◌++◌, length, map, take, drop, is_ok, IsTrue};
 ghost use Rattle.std.specs.List.{list_all};
 ghost use Rattle.hex.specs.Hex.{decode_of, encode_lower, is_hex_digit};
-ghost use Rattle.rtps_digits.specs.Pairs.{half_digit, is_low, join, lane_value, octets_of, pairs_of, pairs_with};
+ghost use Rattle.rtps_digits.specs.Pairs as pairs;
 
 use std::simd::prelude::*;
 
 /// The value of each digit, and 16 or more for what is no digit.
 #[inline(always)]
 fn lane_values(digits: u8x32) -> u8x32
-    ensures { result ≡ map lane_value digits }
+    ensures { result ≡ map pairs.lane_value digits }
 {
     let decimal = digits - u8x32::splat(b'0');
     // The bit that makes a letter lower case is cleared.
@@ -26,7 +26,7 @@ fn lane_values(digits: u8x32) -> u8x32
 /// The octets of the values of pairs of digits.
 #[inline(always)]
 fn join_pairs(values: u8x32) -> u8x16
-    ensures { result ≡ pairs_with join values }
+    ensures { result ≡ pairs.pairs_with pairs.join values }
 {
     let front: u8x16 = values.extract::<0, 16>();
     let back: u8x16 = values.extract::<16, 16>();
@@ -37,14 +37,14 @@ fn join_pairs(values: u8x32) -> u8x16
 /// The greater of each two lanes.
 #[inline(always)]
 fn worse(a: u8x32, b: u8x32) -> u8x32
-    ensures { list_all is_low result ≡ (list_all is_low a && list_all is_low b) }
+    ensures { list_all pairs.is_low result ≡ (list_all pairs.is_low a && list_all pairs.is_low b) }
 {
     a.simd_max(b)
 }
 
 #[inline(always)]
 fn are_low(values: u8x32) -> bool
-    ensures { result ≡ list_all is_low values }
+    ensures { result ≡ list_all pairs.is_low values }
 {
     u8x32::splat(16).simd_le(values).to_bitmask() == 0
 }
@@ -54,7 +54,7 @@ fn decode_vectors(octets: &mut [u8], digits: &[u8]) -> bool
     requires { length digits.now ≡ 2 * length octets.old }
     ensures found { result ≡ list_all is_hex_digit (take (32 * (length octets.old / 16)) digits.now) }
     ensures octets { IsTrue result → take (16 * (length octets.old / 16)) octets.new
-        ≡ pairs_of (take (32 * (length octets.old / 16)) digits.now) }
+        ≡ pairs.pairs_of (take (32 * (length octets.old / 16)) digits.now) }
 {
     let mut worst = u8x32::splat(0);
     'vectors: for k in 0..octets.len() / 16 {
@@ -71,7 +71,7 @@ fn decode_last(octets: &mut [u8], digits: &[u8]) -> bool
     requires long { 16 ≤ length octets.old }
     ensures found { result ≡ list_all is_hex_digit (drop (length digits.now - 32) digits.now) }
     ensures octets { IsTrue result → octets.new
-        ≡ take (length octets.old - 16) octets.old ++ pairs_of (drop (length digits.now - 32) digits.now) }
+        ≡ take (length octets.old - 16) octets.old ++ pairs.pairs_of (drop (length digits.now - 32) digits.now) }
 {
     let from = octets.len() - 16;
     let values = lane_values(u8x32::from_slice(&digits[2 * from..]));
@@ -84,7 +84,7 @@ fn decode_long(octets: &mut [u8], digits: &[u8]) -> bool
     requires size { length digits.now ≡ 2 * length octets.old }
     requires long { 16 ≤ length octets.old }
     ensures found { result ≡ is_ok (decode_of digits.now) }
-    ensures octets { IsTrue result → octets.new ≡ octets_of digits.now }
+    ensures octets { IsTrue result → octets.new ≡ pairs.octets_of digits.now }
 {
     let found = decode_vectors(octets, digits);
     let found_last = decode_last(octets, digits);
@@ -96,7 +96,7 @@ fn decode_long(octets: &mut [u8], digits: &[u8]) -> bool
 pub fn decode(octets: &mut [u8], digits: &[u8]) -> bool
     requires { length octets.old ≡ length digits.now / 2 }
     ensures found { result ≡ is_ok (decode_of digits.now) }
-    ensures octets { IsTrue result → octets.new ≡ octets_of digits.now }
+    ensures octets { IsTrue result → octets.new ≡ pairs.octets_of digits.now }
 {
     if digits.len() % 2 == 0 && octets.len() >= 16 {
         decode_long(octets, digits)
@@ -108,7 +108,7 @@ pub fn decode(octets: &mut [u8], digits: &[u8]) -> bool
 /// The digits of the low halves of octets, in lower case.
 #[inline(always)]
 fn low_digits(halves: u8x16) -> u8x16
-    ensures { result ≡ map half_digit halves }
+    ensures { result ≡ map pairs.half_digit halves }
 {
     halves.simd_lt(u8x16::splat(10)).select(
         halves + u8x16::splat(b'0'),
@@ -119,7 +119,7 @@ fn low_digits(halves: u8x16) -> u8x16
 /// The first digit of each octet.
 #[inline(always)]
 fn first_digits(octets: u8x16) -> u8x16
-    ensures { result ≡ map (λ octet. half_digit (octet / 16)) octets }
+    ensures { result ≡ map (λ octet. pairs.half_digit (octet / 16)) octets }
 {
     low_digits(octets >> u8x16::splat(4))
 }
@@ -127,7 +127,7 @@ fn first_digits(octets: u8x16) -> u8x16
 /// The second digit of each octet.
 #[inline(always)]
 fn second_digits(octets: u8x16) -> u8x16
-    ensures { result ≡ map (λ octet. half_digit (bit_and octet 15)) octets }
+    ensures { result ≡ map (λ octet. pairs.half_digit (bit_and octet 15)) octets }
 {
     low_digits(octets & u8x16::splat(15))
 }

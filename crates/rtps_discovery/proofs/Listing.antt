@@ -11,11 +11,11 @@ use Rattle.std.specs.declared.cmp.Ordering.TheVariants.{Less, Equal, Greater}
 use Rattle.std.proofs.lemmas.Bool.{false≢true}
 use Rattle.std.proofs.lemmas.Cmp.{nat_list_cmp_total}
 use Rattle.std.proofs.lemmas.List.Elements.{filter_agree}
-use Rattle.rtps_discovery.specs.Endpoint.{EndpointValue, endpoint_value}
-use Rattle.rtps_discovery.specs.Matching.{is_match, is_reader, match_of, matches_of}
-use Rattle.rtps_discovery.specs.TopicIndex.{IsByType, IsByTypeInTopics, KeepsTypes, has_topic, has_type, readers_among}
+use Rattle.rtps_discovery.specs.Endpoint as endpoint_spec
+use Rattle.rtps_discovery.specs.Matching as matching
+use Rattle.rtps_discovery.specs.TopicIndex as topic_index
 use Rattle.rtps_discovery.specs.declared.endpoint.Endpoint.{Endpoint}
-use Rattle.rtps_discovery.specs.declared.endpoint.Side.TheVariants.{Writer}
+use Rattle.rtps_discovery.specs.declared.endpoint.Side.{Side}
 use Rattle.rtps_discovery.specs.declared.matching.Match.{Match}
 use Rattle.rtps_discovery.proofs.Matched.{is_match_decides}
 use Rattle.rtps_discovery.proofs.Topics.{has_name}
@@ -72,73 +72,73 @@ filter_swap p q (x ∷ xs) = swapped_first x (p x) (q x) p q (filter p xs) (filt
 
 -- two sorts, by type and then by topic, keep the readers of one topic and one type in their order
 pub types_kept : (before typed sorted : List Endpoint) → IsStableByKey (λ reader. reader.type_name.now) (slice_cmp nat_cmp) before typed
-    → IsStableByKey (λ reader. reader.topic.now) (slice_cmp nat_cmp) typed sorted → KeepsTypes before sorted
+    → IsStableByKey (λ reader. reader.topic.now) (slice_cmp nat_cmp) typed sorted → topic_index.KeepsTypes before sorted
 types_kept before typed sorted by_type by_topic = λ writer.
-    let type_test = has_type writer.type_name.now in
-    let topic_test = has_topic writer.topic.now in
+    let type_test = topic_index.has_type writer.type_name.now in
+    let topic_test = topic_index.has_topic writer.topic.now in
     ap (filter type_test) (name_kept (λ reader. reader.topic.now) typed sorted writer by_topic)
     ∙ filter_swap type_test topic_test typed
     ∙ ap (filter topic_test) (name_kept (λ reader. reader.type_name.now) before typed writer by_type)
     ∙ filter_swap topic_test type_test before
 
 -- and those of one topic are sorted by type
-pub typed_in_topics : (typed sorted : List Endpoint) → IsByType typed → IsStableByKey (λ reader. reader.topic.now) (slice_cmp nat_cmp) typed sorted
-    → IsByTypeInTopics sorted
+pub typed_in_topics : (typed sorted : List Endpoint) → topic_index.IsByType typed → IsStableByKey (λ reader. reader.topic.now) (slice_cmp nat_cmp) typed sorted
+    → topic_index.IsByTypeInTopics sorted
 typed_in_topics typed sorted by_type by_topic = λ writer.
     rw (name_kept (λ reader. reader.topic.now) typed sorted writer by_topic)
-    (IsSortedBy-filter _ (ranks_by nat_list_cmp_total (λ (reader : Endpoint). reader.type_name.now)) (has_topic writer.topic.now) typed by_type)
+    (IsSortedBy-filter _ (ranks_by nat_list_cmp_total (λ (reader : Endpoint). reader.type_name.now)) (topic_index.has_topic writer.topic.now) typed by_type)
 
-match_is_reader : (writer : EndpointValue) (endpoint : Endpoint) → is_match writer (endpoint_value endpoint) ≡ true → is_reader endpoint.side ≡ true
-match_is_reader writer endpoint e = rw (((is_match_decides writer (endpoint_value endpoint)).0 e).is_reader) refl
+match_is_reader : (writer : endpoint_spec.EndpointValue) (endpoint : Endpoint) → matching.is_match writer (endpoint_spec.endpoint_value endpoint) ≡ true → matching.is_reader endpoint.side ≡ true
+match_is_reader writer endpoint e = rw (((is_match_decides writer (endpoint_spec.endpoint_value endpoint)).0 e).is_reader) refl
 
-match_has_topic : (writer endpoint : Endpoint) → is_match (endpoint_value writer) (endpoint_value endpoint) ≡ true → has_topic writer.topic.now endpoint ≡ true
+match_has_topic : (writer endpoint : Endpoint) → matching.is_match (endpoint_spec.endpoint_value writer) (endpoint_spec.endpoint_value endpoint) ≡ true → topic_index.has_topic writer.topic.now endpoint ≡ true
 match_has_topic writer endpoint e =
-    rw (((is_match_decides (endpoint_value writer) (endpoint_value endpoint)).0 e).one_topic) ((eq_by_cmp_equiv nat_list_cmp_total).refl endpoint.topic.now)
+    rw (((is_match_decides (endpoint_spec.endpoint_value writer) (endpoint_spec.endpoint_value endpoint)).0 e).one_topic) ((eq_by_cmp_equiv nat_list_cmp_total).refl endpoint.topic.now)
 
-match_has_type : (writer endpoint : Endpoint) → is_match (endpoint_value writer) (endpoint_value endpoint) ≡ true → has_type writer.type_name.now endpoint ≡ true
+match_has_type : (writer endpoint : Endpoint) → matching.is_match (endpoint_spec.endpoint_value writer) (endpoint_spec.endpoint_value endpoint) ≡ true → topic_index.has_type writer.type_name.now endpoint ≡ true
 match_has_type writer endpoint e =
-    rw (((is_match_decides (endpoint_value writer) (endpoint_value endpoint)).0 e).one_type) ((eq_by_cmp_equiv nat_list_cmp_total).refl endpoint.type_name.now)
+    rw (((is_match_decides (endpoint_spec.endpoint_value writer) (endpoint_spec.endpoint_value endpoint)).0 e).one_type) ((eq_by_cmp_equiv nat_list_cmp_total).refl endpoint.type_name.now)
 
-pub matches_of-readers : (endpoints readers : List Endpoint) (writer : Endpoint) → KeepsTypes (readers_among endpoints) readers
-    → matches_of (endpoint_value writer) (map endpoint_value (filter (has_type writer.type_name.now) (filter (has_topic writer.topic.now) readers)))
-    ≡ matches_of (endpoint_value writer) (map endpoint_value endpoints)
+pub matches_of-readers : (endpoints readers : List Endpoint) (writer : Endpoint) → topic_index.KeepsTypes (topic_index.readers_among endpoints) readers
+    → matching.matches_of (endpoint_spec.endpoint_value writer) (map endpoint_spec.endpoint_value (filter (topic_index.has_type writer.type_name.now) (filter (topic_index.has_topic writer.topic.now) readers)))
+    ≡ matching.matches_of (endpoint_spec.endpoint_value writer) (map endpoint_spec.endpoint_value endpoints)
 matches_of-readers endpoints readers writer kept =
-    let test = λ (endpoint : Endpoint). is_match (endpoint_value writer) (endpoint_value endpoint) in
-    let among = readers_among endpoints in
-    ap (map (match_of (endpoint_value writer)))
-    (filter-map (is_match (endpoint_value writer)) endpoint_value (filter (has_type writer.type_name.now) (filter (has_topic writer.topic.now) readers))
-    ∙ ap (map endpoint_value) (ap (filter test) (kept writer)
-    ∙ filter_within test (has_type writer.type_name.now) (match_has_type writer) (filter (has_topic writer.topic.now) among)
-    ∙ filter_within test (has_topic writer.topic.now) (match_has_topic writer) among
-    ∙ filter_within test (λ endpoint. is_reader endpoint.side) (match_is_reader (endpoint_value writer)) endpoints)
-    ∙ sym (filter-map (is_match (endpoint_value writer)) endpoint_value endpoints))
+    let test = λ (endpoint : Endpoint). matching.is_match (endpoint_spec.endpoint_value writer) (endpoint_spec.endpoint_value endpoint) in
+    let among = topic_index.readers_among endpoints in
+    ap (map (matching.match_of (endpoint_spec.endpoint_value writer)))
+    (filter-map (matching.is_match (endpoint_spec.endpoint_value writer)) endpoint_spec.endpoint_value (filter (topic_index.has_type writer.type_name.now) (filter (topic_index.has_topic writer.topic.now) readers))
+    ∙ ap (map endpoint_spec.endpoint_value) (ap (filter test) (kept writer)
+    ∙ filter_within test (topic_index.has_type writer.type_name.now) (match_has_type writer) (filter (topic_index.has_topic writer.topic.now) among)
+    ∙ filter_within test (topic_index.has_topic writer.topic.now) (match_has_topic writer) among
+    ∙ filter_within test (λ endpoint. matching.is_reader endpoint.side) (match_is_reader (endpoint_spec.endpoint_value writer)) endpoints)
+    ∙ sym (filter-map (matching.is_match (endpoint_spec.endpoint_value writer)) endpoint_spec.endpoint_value endpoints))
 
 -- what is no writer has no matches
-pub matches_of-reader : (endpoint : EndpointValue) (endpoints : List EndpointValue) → endpoint.side ≢ Writer → matches_of endpoint endpoints ≡ []
+pub matches_of-reader : (endpoint : endpoint_spec.EndpointValue) (endpoints : List endpoint_spec.EndpointValue) → endpoint.side ≢ Side.Writer → matching.matches_of endpoint endpoints ≡ []
 matches_of-reader endpoint [] h = refl
-matches_of-reader endpoint (reader ∷ readers) h = at_first (is_match endpoint reader) refl (matches_of-reader endpoint readers h)
+matches_of-reader endpoint (reader ∷ readers) h = at_first (matching.is_match endpoint reader) refl (matches_of-reader endpoint readers h)
   where
-    at_first : (b : Bool) → is_match endpoint reader ≡ b → matches_of endpoint readers ≡ [] → map (match_of endpoint) (cond (is_match endpoint reader) (reader ∷ filter (is_match endpoint) readers) (filter (is_match endpoint) readers)) ≡ []
+    at_first : (b : Bool) → matching.is_match endpoint reader ≡ b → matching.matches_of endpoint readers ≡ [] → map (matching.match_of endpoint) (cond (matching.is_match endpoint reader) (reader ∷ filter (matching.is_match endpoint) readers) (filter (matching.is_match endpoint) readers)) ≡ []
     at_first true e f = absurd (h ((is_match_decides endpoint reader).0 e).is_writer)
     at_first false e f = rw e f
 
 -- the matches of the endpoints in turn, each among all
 abbrev pub listed : List Endpoint → List Endpoint → List Match
-listed all endpoints = flat_map (λ writer. matches_of (endpoint_value writer) (map endpoint_value all)) endpoints
+listed all endpoints = flat_map (λ writer. matching.matches_of (endpoint_spec.endpoint_value writer) (map endpoint_spec.endpoint_value all)) endpoints
 
-pub listed_all : (all endpoints : List Endpoint) → listed all endpoints ≡ flat_map (λ writer. matches_of writer (map endpoint_value all)) (map endpoint_value endpoints)
+pub listed_all : (all endpoints : List Endpoint) → listed all endpoints ≡ flat_map (λ writer. matching.matches_of writer (map endpoint_spec.endpoint_value all)) (map endpoint_spec.endpoint_value endpoints)
 listed_all all [] = refl
-listed_all all (endpoint ∷ endpoints) = ap (λ found. matches_of (endpoint_value endpoint) (map endpoint_value all) ++ found) (listed_all all endpoints)
+listed_all all (endpoint ∷ endpoints) = ap (λ found. matching.matches_of (endpoint_spec.endpoint_value endpoint) (map endpoint_spec.endpoint_value all) ++ found) (listed_all all endpoints)
 
 pub listed_more : (endpoints : List Endpoint) (i : ℕ) (d : Endpoint) → i < length endpoints
-    → listed endpoints (take (i + 1) endpoints) ≡ listed endpoints (take i endpoints) ++ matches_of (endpoint_value (get_or endpoints i d)) (map endpoint_value endpoints)
+    → listed endpoints (take (i + 1) endpoints) ≡ listed endpoints (take i endpoints) ++ matching.matches_of (endpoint_spec.endpoint_value (get_or endpoints i d)) (map endpoint_spec.endpoint_value endpoints)
 listed_more endpoints i d lt =
     ap (listed endpoints) (take_more endpoints i d lt)
-    ∙ flat_map-append (λ writer. matches_of (endpoint_value writer) (map endpoint_value endpoints)) (take i endpoints) (get_or endpoints i d ∷ [])
+    ∙ flat_map-append (λ writer. matching.matches_of (endpoint_spec.endpoint_value writer) (map endpoint_spec.endpoint_value endpoints)) (take i endpoints) (get_or endpoints i d ∷ [])
     ∙ ap (λ found. listed endpoints (take i endpoints) ++ found) (append-nil _)
 
 -- a turn at another endpoint than a writer
-pub listed_other : (endpoints : List Endpoint) (i : ℕ) (d : Endpoint) (before : List Match) → i < length endpoints → ((get_or endpoints i d).side ≢ Writer)
+pub listed_other : (endpoints : List Endpoint) (i : ℕ) (d : Endpoint) (before : List Match) → i < length endpoints → ((get_or endpoints i d).side ≢ Side.Writer)
     → before ≡ listed endpoints (take i endpoints) → before ≡ listed endpoints (take (i + 1) endpoints)
 listed_other endpoints i d before lt other was =
-    was ∙ sym (listed_more endpoints i d lt ∙ ap (λ found. listed endpoints (take i endpoints) ++ found) (matches_of-reader _ (map endpoint_value endpoints) other) ∙ append-nil _)
+    was ∙ sym (listed_more endpoints i d lt ∙ ap (λ found. listed endpoints (take i endpoints) ++ found) (matches_of-reader _ (map endpoint_spec.endpoint_value endpoints) other) ∙ append-nil _)

@@ -5,7 +5,7 @@ use Rattle.std.proofs.lemmas.Bool.{false≢true}
 use Rattle.std.proofs.lemmas.Bool.Decides.{Decides-and, Decides-like}
 use denote.Enum.Bare.{sameb, same_true, true_same}
 use Rattle.rtps_ids.specs.declared.identity.Guid.{Guid}
-use Rattle.rtps_discovery.specs.Endpoint.{EndpointValue, endpoint_value}
+use Rattle.rtps_discovery.specs.Endpoint as endpoint
 use Rattle.rtps_discovery.specs.declared.endpoint.Durability.{Durability}
 use Rattle.rtps_discovery.specs.declared.endpoint.Endpoint.{Endpoint}
 use Rattle.rtps_discovery.specs.declared.endpoint.Reliability.{Reliability}
@@ -33,29 +33,29 @@ same_octets_decides a b =
     (Decides-and _ _ (bytes_decides a.prefix.0 b.prefix.0) (bytes_decides a.entity.0 b.entity.0))
 
 -- the test of the six fields
-abbrev pub same_value : EndpointValue → EndpointValue → Bool
+abbrev pub same_value : endpoint.EndpointValue → endpoint.EndpointValue → Bool
 same_value a b =
     same_octets a.guid b.guid && (sameb side.the_type a.side b.side && (pointwise nat_eq a.topic b.topic && (pointwise nat_eq a.type_name b.type_name
     && (sameb reliability.the_type a.reliability b.reliability && sameb durability.the_type a.durability b.durability))))
 
-six_fields : (a b : EndpointValue) → a.guid ≡ b.guid → a.side ≡ b.side → a.topic ≡ b.topic → a.type_name ≡ b.type_name → a.reliability ≡ b.reliability → a.durability ≡ b.durability → a ≡ b
+six_fields : (a b : endpoint.EndpointValue) → a.guid ≡ b.guid → a.side ≡ b.side → a.topic ≡ b.topic → a.type_name ≡ b.type_name → a.reliability ≡ b.reliability → a.durability ≡ b.durability → a ≡ b
 six_fields a b guid side topic type_name reliability durability =
     let same : (a.guid, a.side, a.topic, a.type_name, a.reliability, a.durability) ≡ (b.guid, b.side, b.topic, b.type_name, b.reliability, b.durability) = cc in
     ap (λ (x : Guid × Side × List ℕ × List ℕ × Reliability × Durability).
-    let value : EndpointValue = record { guid = x.0; side = x.1; topic = x.2; type_name = x.3; reliability = x.4; durability = x.5 } in value) same
+    let value : endpoint.EndpointValue = record { guid = x.0; side = x.1; topic = x.2; type_name = x.3; reliability = x.4; durability = x.5 } in value) same
 
-pub value_decides : (a b : EndpointValue) → Decides (same_value a b) (a ≡ b)
+pub value_decides : (a b : endpoint.EndpointValue) → Decides (same_value a b) (a ≡ b)
 value_decides a b =
     Decides-like _ (λ h. six_fields a b h.0 h.1.0 h.1.1.0 h.1.1.1.0 h.1.1.1.1.0 h.1.1.1.1.1)
     (λ e. (
-      ap (λ (x : EndpointValue). x.guid) e,
+      ap (λ (x : endpoint.EndpointValue). x.guid) e,
       (
-        ap (λ (x : EndpointValue). x.side) e,
+        ap (λ (x : endpoint.EndpointValue). x.side) e,
         (
-          ap (λ (x : EndpointValue). x.topic) e,
+          ap (λ (x : endpoint.EndpointValue). x.topic) e,
           (
-            ap (λ (x : EndpointValue). x.type_name) e,
-            (ap (λ (x : EndpointValue). x.reliability) e, ap (λ (x : EndpointValue). x.durability) e),
+            ap (λ (x : endpoint.EndpointValue). x.type_name) e,
+            (ap (λ (x : endpoint.EndpointValue). x.reliability) e, ap (λ (x : endpoint.EndpointValue). x.durability) e),
           ),
         ),
       ),
@@ -67,5 +67,5 @@ match_from_decides : {P : Type 0} (r : Bool) → Decides r P → MatchBool r P (
 match_from_decides true h = h.0 refl
 match_from_decides false h = λ p. false≢true (h.1 p)
 
-pub same_decides : (a b : Endpoint) → MatchBool (same_value (endpoint_value a) (endpoint_value b)) (endpoint_value a ≡ endpoint_value b) (endpoint_value a ≢ endpoint_value b)
-same_decides a b = match_from_decides _ (value_decides (endpoint_value a) (endpoint_value b))
+pub same_decides : (a b : Endpoint) → MatchBool (same_value (endpoint.endpoint_value a) (endpoint.endpoint_value b)) (endpoint.endpoint_value a ≡ endpoint.endpoint_value b) (endpoint.endpoint_value a ≢ endpoint.endpoint_value b)
+same_decides a b = match_from_decides _ (value_decides (endpoint.endpoint_value a) (endpoint.endpoint_value b))

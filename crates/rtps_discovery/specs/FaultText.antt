@@ -1,28 +1,27 @@
 -- The names and the numbers of faults. own: both stay the same, since reports and programs name faults by them.
 use Rattle.std.specs.Prelude.{ℕ, List, codes}
 use Rattle.rtps_discovery.specs.declared.fault.NoticeFault.{NoticeFault}
-use Rattle.rtps_discovery.specs.declared.fault.NoticeFault.TheVariants.{CutRepresentation, Representation, List as ListFault, NoGuid, NoTopic, NoType, BadText, BadReliability, BadDurability}
 
 -- the name of a fault: that of its variant
 unfoldable pub fault_name : NoticeFault → List ℕ
-fault_name CutRepresentation = codes "CutRepresentation"
-fault_name Representation = codes "Representation"
-fault_name ListFault = codes "List"
-fault_name NoGuid = codes "NoGuid"
-fault_name NoTopic = codes "NoTopic"
-fault_name NoType = codes "NoType"
-fault_name BadText = codes "BadText"
-fault_name BadReliability = codes "BadReliability"
-fault_name BadDurability = codes "BadDurability"
+fault_name NoticeFault.CutRepresentation = codes "CutRepresentation"
+fault_name NoticeFault.Representation = codes "Representation"
+fault_name NoticeFault.List = codes "List"
+fault_name NoticeFault.NoGuid = codes "NoGuid"
+fault_name NoticeFault.NoTopic = codes "NoTopic"
+fault_name NoticeFault.NoType = codes "NoType"
+fault_name NoticeFault.BadText = codes "BadText"
+fault_name NoticeFault.BadReliability = codes "BadReliability"
+fault_name NoticeFault.BadDurability = codes "BadDurability"
 
 -- the number of a fault, from 1 on
 abbrev pub fault_number : NoticeFault → ℕ
-fault_number CutRepresentation = 1
-fault_number Representation = 2
-fault_number ListFault = 3
-fault_number NoGuid = 4
-fault_number NoTopic = 5
-fault_number NoType = 6
-fault_number BadText = 7
-fault_number BadReliability = 8
-fault_number BadDurability = 9
+fault_number NoticeFault.CutRepresentation = 1
+fault_number NoticeFault.Representation = 2
+fault_number NoticeFault.List = 3
+fault_number NoticeFault.NoGuid = 4
+fault_number NoticeFault.NoTopic = 5
+fault_number NoticeFault.NoType = 6
+fault_number NoticeFault.BadText = 7
+fault_number NoticeFault.BadReliability = 8
+fault_number NoticeFault.BadDurability = 9

@@ -4,12 +4,12 @@ use Rattle.std.specs.Prelude.{ℕ, ◌≡◌, Bool, List, filter}
 use Rattle.std.specs.Cmp.Lexicographic.{slice_cmp}
 use Rattle.std.specs.List.Sorted.{IsSortedByKey}
 use Rattle.std.specs.Ordering.{is_eq, nat_cmp}
-use Rattle.rtps_discovery.specs.Matching.{is_reader}
+use Rattle.rtps_discovery.specs.Matching as matching
 use Rattle.rtps_discovery.specs.declared.endpoint.Endpoint.{Endpoint}
 
 -- the readers among endpoints
 abbrev pub readers_among : List Endpoint → List Endpoint
-readers_among endpoints = filter (λ endpoint. is_reader endpoint.side) endpoints
+readers_among endpoints = filter (λ endpoint. matching.is_reader endpoint.side) endpoints
 
 -- readers that are sorted by topic, octet by octet
 abbrev pub IsByTopic : List Endpoint → Type 0

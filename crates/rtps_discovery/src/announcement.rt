@@ -1,9 +1,8 @@
 ghost use Rattle.std.specs.Prelude.{◌≡◌, ◌≤◌, length, option_and_then, option_copied};
-ghost use Rattle.rtps_params.specs.Values.{guid_of};
-ghost use Rattle.rtps_discovery.specs.Announcement.{ReadsOrFaults, default_reliability, durability_of_kind, endpoint_in, endpoint_of, kind_in, order_of, participant_in, participant_of, reliability_of_kind};
+ghost use Rattle.rtps_params.specs.Values as values;
 ghost use Rattle.rtps_discovery.specs.Announcement as announcement;
-ghost use Rattle.rtps_discovery.specs.Endpoint.{endpoint_value};
-ghost use Rattle.rtps_discovery.specs.Fields.{fields_value};
+ghost use Rattle.rtps_discovery.specs.Endpoint as endpoint;
+ghost use Rattle.rtps_discovery.specs.Fields as fields;
 
 use crate::endpoint::{Durability, Endpoint, Reliability, Side};
 use crate::endpoint_parameters::EndpointParameters;
@@ -17,7 +16,7 @@ use rtps_params::{ParamList, read_guid, read_text, read_u32};
 /// (DDSI-RTPS 2.5, 8.5.3 "The Simple Participant Discovery Protocol"). It takes no memory.
 #[tactic(auto, unfolding(crate::specs::Announcement::participant_in))]
 pub fn read_participant(payload: &[u8]) -> Result<Guid, NoticeFault>
-    ensures { ReadsOrFaults (λ guid. guid) result (participant_of payload.now) }
+    ensures { announcement.ReadsOrFaults (λ guid. guid) result (announcement.participant_of payload.now) }
 {
     match fields_of(payload) {
         Ok(list) => guid_in(list.first(PARTICIPANT_GUID)).ok_or(NoticeFault::NoGuid),
@@ -28,7 +27,7 @@ pub fn read_participant(payload: &[u8]) -> Result<Guid, NoticeFault>
 /// The endpoint of this side that a payload announces, or the first fault of the payload (DDSI-RTPS 2.5, 8.5.4 "The
 /// Simple Endpoint Discovery Protocol"). Its names are parts of the payload. It takes no memory.
 pub fn read_endpoint(payload: &[u8], side: Side) -> Result<Endpoint<'_>, NoticeFault>
-    ensures { ReadsOrFaults endpoint_value result (endpoint_of side payload.now) }
+    ensures { announcement.ReadsOrFaults endpoint.endpoint_value result (announcement.endpoint_of side payload.now) }
 {
     match fields_of(payload) {
         Ok(list) => endpoint_of(&list, side),
@@ -41,7 +40,7 @@ pub fn read_endpoint(payload: &[u8], side: Side) -> Result<Endpoint<'_>, NoticeF
 /// ignored.
 #[tactic(auto, unfolding(crate::specs::Announcement::fields_of))]
 pub(crate) fn fields_of(payload: &[u8]) -> Result<ParamList<'_>, NoticeFault>
-    ensures { ReadsOrFaults fields_value result (announcement.fields_of payload.now) }
+    ensures { announcement.ReadsOrFaults fields.fields_value result (announcement.fields_of payload.now) }
 {
     if payload.len() < representation::SIZE {
         return Err(NoticeFault::CutRepresentation);
@@ -58,7 +57,7 @@ pub(crate) fn fields_of(payload: &[u8]) -> Result<ParamList<'_>, NoticeFault>
 /// The order that the representation of a payload gives, if it is that of parameter lists.
 fn payload_order(payload: &[u8]) -> Option<Order>
     requires { 4 ≤ length payload.now }
-    ensures { result ≡ order_of payload.now }
+    ensures { result ≡ announcement.order_of payload.now }
 {
     let id = &payload[..representation::ID_SIZE];
     if id == representation::PL_CDR_BE.as_slice() {
@@ -73,7 +72,7 @@ fn payload_order(payload: &[u8]) -> Option<Order>
 /// The endpoint that a parameter list describes.
 #[tactic(auto, unfolding(crate::specs::Announcement::endpoint_in))]
 fn endpoint_of<'a>(list: &ParamList<'a>, side: Side) -> Result<Endpoint<'a>, NoticeFault>
-    ensures { ReadsOrFaults endpoint_value result (endpoint_in side (fields_value list.now)) }
+    ensures { announcement.ReadsOrFaults endpoint.endpoint_value result (announcement.endpoint_in side (fields.fields_value list.now)) }
 {
     let order = list.order();
     let told = EndpointParameters::of(list);
@@ -108,7 +107,7 @@ fn endpoint_of<'a>(list: &ParamList<'a>, side: Side) -> Result<Endpoint<'a>, Not
 
 /// The GUID in the value of a parameter, or None if there is no value or it is cut.
 pub(crate) fn guid_in(value: Option<&[u8]>) -> Option<Guid>
-    ensures { result ≡ option_and_then guid_of (option_copied value.entry) }
+    ensures { result ≡ option_and_then values.guid_of (option_copied value.entry) }
 {
     match value {
         Some(value) => read_guid(value),
@@ -120,7 +119,7 @@ pub(crate) fn guid_in(value: Option<&[u8]>) -> Option<Guid>
 /// cut or its kind is unknown.
 fn reliability_in(value: Option<&[u8]>, order: Order, side: Side) -> Option<Reliability>
     ensures { result
-        ≡ kind_in order reliability_of_kind (default_reliability side) (option_copied value.entry) }
+        ≡ announcement.kind_in order announcement.reliability_of_kind (announcement.default_reliability side) (option_copied value.entry) }
 {
     let Some(value) = value else {
         return Some(match side {
@@ -138,7 +137,7 @@ fn reliability_in(value: Option<&[u8]>, order: Order, side: Side) -> Option<Reli
 /// The durability in the value of a parameter, or the default if there is no value. None if the value is cut or its
 /// kind is unknown.
 fn durability_in(value: Option<&[u8]>, order: Order) -> Option<Durability>
-    ensures { result ≡ kind_in order durability_of_kind Durability.Volatile (option_copied value.entry) }
+    ensures { result ≡ announcement.kind_in order announcement.durability_of_kind Durability.Volatile (option_copied value.entry) }
 {
     let Some(value) = value else {
         return Some(Durability::Volatile);

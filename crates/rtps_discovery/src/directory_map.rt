@@ -1,11 +1,11 @@
 ghost use Rattle.std.specs.Prelude.{◌≡◌, ◌≢◌, ◌∷◌, [], ◌++◌, if◌then◌else◌, List, IfOk, OnOk, OnErr, length, map};
-ghost use Rattle.rtps_receiver.specs.Acts.{data_among};
+ghost use Rattle.rtps_receiver.specs.Acts as acts_spec;
 ghost use Rattle.std.specs.Option.{option_map};
-ghost use Rattle.rtps_receiver.specs.Values.{ActValue, act_value, spoken_value};
-ghost use Rattle.rtps_discovery.specs.Directory.{HasNotedSome, IsMapOf, settled_at, settled_in, unsettled_in};
-ghost use Rattle.rtps_discovery.specs.Endpoint.{endpoint_value};
-ghost use Rattle.rtps_discovery.specs.Matching.{matches_among, reliable_pairs};
-ghost use Rattle.rtps_discovery.specs.Notice.{RepeatsOneOf, announcement_of, answer_of, faults_in, is_fault};
+ghost use Rattle.rtps_receiver.specs.Values as values;
+ghost use Rattle.rtps_discovery.specs.Directory as directory;
+ghost use Rattle.rtps_discovery.specs.Endpoint as endpoint;
+ghost use Rattle.rtps_discovery.specs.Matching as matching;
+ghost use Rattle.rtps_discovery.specs.Notice as notice_spec;
 
 use crate::announcement::{read_endpoint, read_participant};
 use crate::endpoint::Endpoint;
@@ -30,22 +30,22 @@ pub struct Directory<'a> {
 }
 
 impl<'a> Model for Directory<'a> {
-    ghost use Rattle.rtps_discovery.specs.Directory.{DirectoryValue};
+    ghost use Rattle.rtps_discovery.specs.Directory as directory;
 
-    ghost Value = { DirectoryValue };
+    ghost Value = { directory.DirectoryValue };
 
-    ghost use Rattle.rtps_discovery.specs.Kept.{entries_value};
+    ghost use Rattle.rtps_discovery.specs.Kept as kept;
 
     ghost view = { (λ directory. record {
       participants = directory.participants.keys;
-      endpoints = entries_value directory.endpoints.entries;
+      endpoints = kept.entries_value directory.endpoints.entries;
     }) };
 }
 
 impl<'a> Directory<'a> {
     /// The directory of no acts. It takes no memory.
     pub fn new(alloc: Global) -> Self
-        ensures map { IsMapOf [] result }
+        ensures map { directory.IsMapOf [] result }
         ensures empty { result ≡ record { participants = []; endpoints = [] } }
     {
         Directory {
@@ -59,16 +59,16 @@ impl<'a> Directory<'a> {
     /// fault, or that announces what is known already changes nothing and takes no memory. What is known already is
     /// `Kept` too. After `Memory` the directory is as it was.
     pub fn note(&mut self, act: &Act<'a>) -> Result<Noted, Memory>
-        ensures map { OnOk result ((acts : List ActValue)
-            → IsMapOf acts self.old → IsMapOf (acts ++ act_value act.now ∷ []) self.new) }
-        ensures noted { IfOk result (λ noted. noted ≡ answer_of (announcement_of (act_value act.now))) }
+        ensures map { OnOk result ((acts : List values.ActValue)
+            → directory.IsMapOf acts self.old → directory.IsMapOf (acts ++ values.act_value act.now ∷ []) self.new) }
+        ensures noted { IfOk result (λ noted. noted ≡ notice_spec.answer_of (notice_spec.announcement_of (values.act_value act.now))) }
         ensures err { OnErr result (self.new ≡ self.old) }
 
         // With nothing to keep, it does not fail.
-        ensures unkept { let answer = answer_of (announcement_of (act_value act.now)) in
+        ensures unkept { let answer = notice_spec.answer_of (notice_spec.announcement_of (values.act_value act.now)) in
             answer ≢ Noted.Kept → (result ≡ Ok answer) × (self.new ≡ self.old) }
-        ensures again { let answer = answer_of (announcement_of (act_value act.now)) in
-            (acts : List ActValue) → IsMapOf acts self.old → RepeatsOneOf acts (act_value act.now)
+        ensures again { let answer = notice_spec.answer_of (notice_spec.announcement_of (values.act_value act.now)) in
+            (acts : List values.ActValue) → directory.IsMapOf acts self.old → notice_spec.RepeatsOneOf acts (values.act_value act.now)
             → (result ≡ Ok answer) × (self.new ≡ self.old) }
     {
         let spoken = Spoken {
@@ -86,16 +86,16 @@ impl<'a> Directory<'a> {
 
     /// [`Directory::note`] of an act among what a walk hands on. Of a DATA_FRAG or a NACK_FRAG nothing is kept.
     pub fn note_spoken(&mut self, act: &Spoken<'a>) -> Result<Noted, Memory>
-        ensures map { OnOk result ((acts : List ActValue)
-            → IsMapOf acts self.old → IsMapOf (acts ++ spoken_value act.now ∷ []) self.new) }
-        ensures noted { IfOk result (λ noted. noted ≡ answer_of (announcement_of (spoken_value act.now))) }
+        ensures map { OnOk result ((acts : List values.ActValue)
+            → directory.IsMapOf acts self.old → directory.IsMapOf (acts ++ values.spoken_value act.now ∷ []) self.new) }
+        ensures noted { IfOk result (λ noted. noted ≡ notice_spec.answer_of (notice_spec.announcement_of (values.spoken_value act.now))) }
         ensures err { OnErr result (self.new ≡ self.old) }
 
         // With nothing to keep, it does not fail.
-        ensures unkept { let answer = answer_of (announcement_of (spoken_value act.now)) in
+        ensures unkept { let answer = notice_spec.answer_of (notice_spec.announcement_of (values.spoken_value act.now)) in
             answer ≢ Noted.Kept → (result ≡ Ok answer) × (self.new ≡ self.old) }
-        ensures again { let answer = answer_of (announcement_of (spoken_value act.now)) in
-            (acts : List ActValue) → IsMapOf acts self.old → RepeatsOneOf acts (spoken_value act.now)
+        ensures again { let answer = notice_spec.answer_of (notice_spec.announcement_of (values.spoken_value act.now)) in
+            (acts : List values.ActValue) → directory.IsMapOf acts self.old → notice_spec.RepeatsOneOf acts (values.spoken_value act.now)
             → (result ≡ Ok answer) × (self.new ≡ self.old) }
     {
         let Some((subject, payload)) = notice(act) else {
@@ -131,21 +131,21 @@ impl<'a> Directory<'a> {
     /// The endpoints whose announcements agree, in the order of their GUIDs.
     #[tactic(auto, using(crate::proofs::Entries::settled))]
     pub fn endpoints(&self) -> Result<Vec<Endpoint<'a>>, Memory>
-        ensures { IfOk result (λ endpoints. map endpoint_value endpoints.items ≡ settled_in self.now.endpoints) }
+        ensures { IfOk result (λ endpoints. map endpoint.endpoint_value endpoints.items ≡ directory.settled_in self.now.endpoints) }
     {
         settled(self.alloc, &self.endpoints)
     }
 
     /// The endpoint of a GUID. None if there is none, or if its announcements disagree.
     pub fn endpoint(&self, guid: Guid) -> Option<Endpoint<'a>>
-        ensures { option_map endpoint_value result ≡ settled_at self.now.endpoints guid }
+        ensures { option_map endpoint.endpoint_value result ≡ directory.settled_at self.now.endpoints guid }
     {
         settled_at(&self.endpoints, guid)
     }
 
     /// The matches among the endpoints whose announcements agree, sorted by writer and then by reader.
     pub fn matched(&self) -> Result<Vec<Match>, Memory>
-        ensures { IfOk result (λ found. found.items ≡ matches_among (settled_in self.now.endpoints)) }
+        ensures { IfOk result (λ found. found.items ≡ matching.matches_among (directory.settled_in self.now.endpoints)) }
     {
         let endpoints = self.endpoints()?;
         matches_among(self.alloc, &endpoints)
@@ -155,7 +155,7 @@ impl<'a> Directory<'a> {
     #[tactic(auto, using(crate::proofs::ReliablePairs::of_the_reliable))]
     pub fn pairs(&self) -> Result<Vec<Pair>, Memory>
         ensures { IfOk result (λ pairs. pairs.items
-            ≡ reliable_pairs (matches_among (settled_in self.now.endpoints))) }
+            ≡ matching.reliable_pairs (matching.matches_among (directory.settled_in self.now.endpoints))) }
     {
         // There may be many matches of other endpoints, and none of them is such a pair.
         let reliable = reliable_among(self.alloc, &self.endpoints()?)?;
@@ -165,7 +165,7 @@ impl<'a> Directory<'a> {
     /// How many GUIDs have announcements that disagree.
     #[tactic(auto, using(crate::proofs::Entries::unsettled))]
     pub fn unsettled(&self) -> usize
-        ensures { result ≡ length (unsettled_in self.now.endpoints) }
+        ensures { result ≡ length (directory.unsettled_in self.now.endpoints) }
     {
         count_unsettled(&self.endpoints)
     }
@@ -174,16 +174,16 @@ impl<'a> Directory<'a> {
     /// DATA can be announcements, so the DATA of a recording are enough. After `Memory` the acts before one of them are
     /// noted.
     pub fn note_all(&mut self, acts: &[Spoken<'a>]) -> Result<u64, Memory>
-        ensures map { OnOk result ((before : List ActValue)
-            → IsMapOf before self.old → IsMapOf (before ++ map spoken_value acts.now) self.new) }
-        ensures faults { IfOk result (λ faults. faults ≡ faults_in (map spoken_value acts.now)) }
+        ensures map { OnOk result ((before : List values.ActValue)
+            → directory.IsMapOf before self.old → directory.IsMapOf (before ++ map values.spoken_value acts.now) self.new) }
+        ensures faults { IfOk result (λ faults. faults ≡ notice_spec.faults_in (map values.spoken_value acts.now)) }
 
         // The same, if these are the DATA among other acts.
-        ensures data_map { OnOk result ((before all : List ActValue) → map spoken_value acts.now ≡ data_among all
-            → IsMapOf before self.old → IsMapOf (before ++ all) self.new) }
-        ensures data_faults { (all : List ActValue) → map spoken_value acts.now ≡ data_among all
-            → IfOk result (λ faults. faults ≡ faults_in all) }
-        ensures err { OnErr result (HasNotedSome (map spoken_value acts.now) self.old self.new) }
+        ensures data_map { OnOk result ((before all : List values.ActValue) → map values.spoken_value acts.now ≡ acts_spec.data_among all
+            → directory.IsMapOf before self.old → directory.IsMapOf (before ++ all) self.new) }
+        ensures data_faults { (all : List values.ActValue) → map values.spoken_value acts.now ≡ acts_spec.data_among all
+            → IfOk result (λ faults. faults ≡ notice_spec.faults_in all) }
+        ensures err { OnErr result (directory.HasNotedSome (map values.spoken_value acts.now) self.old self.new) }
     {
         let faults = self.note_each(acts)?;
         Ok(faults)
@@ -191,10 +191,10 @@ impl<'a> Directory<'a> {
 
     /// Notes acts in their order, and says how many are announcements with a fault.
     fn note_each(&mut self, acts: &[Spoken<'a>]) -> Result<u64, Memory>
-        ensures map { OnOk result ((before : List ActValue)
-            → IsMapOf before self.old → IsMapOf (before ++ map spoken_value acts.now) self.new) }
-        ensures faults { IfOk result (λ faults. faults ≡ faults_in (map spoken_value acts.now)) }
-        ensures err { OnErr result (HasNotedSome (map spoken_value acts.now) self.old self.new) }
+        ensures map { OnOk result ((before : List values.ActValue)
+            → directory.IsMapOf before self.old → directory.IsMapOf (before ++ map values.spoken_value acts.now) self.new) }
+        ensures faults { IfOk result (λ faults. faults ≡ notice_spec.faults_in (map values.spoken_value acts.now)) }
+        ensures err { OnErr result (directory.HasNotedSome (map values.spoken_value acts.now) self.old self.new) }
     {
         let mut faults = 0u64;
         for act in acts {
@@ -207,7 +207,7 @@ impl<'a> Directory<'a> {
 
 /// 1 for an act with a fault, and else 0.
 fn fault_count(noted: Noted) -> u64
-    ensures { result ≡ (if is_fault noted then 1 else 0) }
+    ensures { result ≡ (if notice_spec.is_fault noted then 1 else 0) }
 {
     match noted {
         Noted::Nothing | Noted::Kept => 0,

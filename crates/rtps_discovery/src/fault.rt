@@ -1,5 +1,5 @@
 ghost use Rattle.std.specs.Prelude.{◌≡◌, Some};
-ghost use Rattle.rtps_discovery.specs.FaultText.{fault_name, fault_number};
+ghost use Rattle.rtps_discovery.specs.FaultText as fault_text;
 
 use std::error::Error;
 use std::fmt;
@@ -31,14 +31,14 @@ pub enum NoticeFault {
 impl NoticeFault {
     /// Its number, from 1 on.
     pub fn number(self) -> u8
-        ensures { result ≡ fault_number self }
+        ensures { result ≡ fault_text.fault_number self }
     {
         self as u8
     }
 }
 
 impl fmt::Display for NoticeFault {
-    ghost output = { λ fault. Some (fault_name fault) };
+    ghost output = { λ fault. Some (fault_text.fault_name fault) };
 
     /// Its name.
     #[tactic(auto, unfolding(crate::specs::FaultText::fault_name))]

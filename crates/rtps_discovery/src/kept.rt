@@ -2,9 +2,9 @@ ghost use Rattle.std.specs.Prelude.{◌≡◌, ◌≢◌, ◌∷◌, [], ◌++�
 ghost use Rattle.std.specs.BTreeMap.{values};
 ghost use Rattle.std.specs.Option.{option_map};
 ghost use Rattle.rtps_ids.specs.declared.identity.Guid.{Guid};
-ghost use Rattle.rtps_discovery.specs.Directory.{AreEntries, AreParticipants, agreed as agreed_entry, entry_at};
-ghost use Rattle.rtps_discovery.specs.Endpoint.{EndpointValue, endpoint_value};
-ghost use Rattle.rtps_discovery.specs.Kept.{IsJoined, entries_value, kept_value};
+ghost use Rattle.rtps_discovery.specs.Directory as directory;
+ghost use Rattle.rtps_discovery.specs.Endpoint as endpoint_spec;
+ghost use Rattle.rtps_discovery.specs.Kept as kept_spec;
 
 use crate::endpoint::Endpoint;
 use rtps_ids::{Guid, Memory};
@@ -21,8 +21,8 @@ pub(crate) struct Kept<'a> {
 /// Adds a participant. One that is there already takes no memory.
 pub(crate) fn keep_participant(participants: &mut BTreeSet<Guid>, guid: Guid) -> Result<(), Memory>
     ensures ok { OnOk result ((announced : List Guid)
-        → AreParticipants announced participants.old.keys
-        → AreParticipants (announced ++ guid ∷ []) participants.new.keys) }
+        → directory.AreParticipants announced participants.old.keys
+        → directory.AreParticipants (announced ++ guid ∷ []) participants.new.keys) }
     ensures err { OnErr result (participants.new.keys ≡ participants.old.keys) }
     ensures absent { OnErr result (¬ Contains participants.old.keys guid) }
 {
@@ -35,11 +35,11 @@ pub(crate) fn keep_endpoint<'a>(
     endpoints: &mut BTreeMap<Guid, Kept<'a>>,
     endpoint: Endpoint<'a>,
 ) -> Result<(), Memory>
-    ensures ok { OnOk result ((announced : List EndpointValue)
-        → AreEntries announced (entries_value endpoints.old.entries)
-        → AreEntries (announced ++ endpoint_value endpoint.entry ∷ []) (entries_value endpoints.new.entries)) }
-    ensures err { OnErr result (entries_value endpoints.new.entries ≡ entries_value endpoints.old.entries) }
-    ensures absent { OnErr result (entry_at (entries_value endpoints.old.entries) endpoint.entry.guid ≡ None) }
+    ensures ok { OnOk result ((announced : List endpoint_spec.EndpointValue)
+        → directory.AreEntries announced (kept_spec.entries_value endpoints.old.entries)
+        → directory.AreEntries (announced ++ endpoint_spec.endpoint_value endpoint.entry ∷ []) (kept_spec.entries_value endpoints.new.entries)) }
+    ensures err { OnErr result (kept_spec.entries_value endpoints.new.entries ≡ kept_spec.entries_value endpoints.old.entries) }
+    ensures absent { OnErr result (directory.entry_at (kept_spec.entries_value endpoints.old.entries) endpoint.entry.guid ≡ None) }
 {
     let mut kept = Kept {
         endpoint,
@@ -56,8 +56,8 @@ pub(crate) fn keep_endpoint<'a>(
 
 /// Whether all announcements of a GUID agree, those before and this one.
 fn agrees(kept: Option<&Kept<'_>>, endpoint: &Endpoint<'_>) -> bool
-    ensures { IsJoined (option_map kept_value (option_copied kept.entry)) (endpoint_value endpoint.now)
-        (if result then Some (endpoint_value endpoint.now) else None) }
+    ensures { kept_spec.IsJoined (option_map kept_spec.kept_value (option_copied kept.entry)) (endpoint_spec.endpoint_value endpoint.now)
+        (if result then Some (endpoint_spec.endpoint_value endpoint.now) else None) }
 {
     match kept {
         None => true,
@@ -68,8 +68,8 @@ fn agrees(kept: Option<&Kept<'_>>, endpoint: &Endpoint<'_>) -> bool
 /// Whether two announcements are equal in the six fields.
 fn is_same(one: &Endpoint<'_>, other: &Endpoint<'_>) -> bool
     ensures { MatchBool result
-        (endpoint_value one.now ≡ endpoint_value other.now)
-        (endpoint_value one.now ≢ endpoint_value other.now) }
+        (endpoint_spec.endpoint_value one.now ≡ endpoint_spec.endpoint_value other.now)
+        (endpoint_spec.endpoint_value one.now ≢ endpoint_spec.endpoint_value other.now) }
 {
     one == other
 }
@@ -109,7 +109,7 @@ pub(crate) fn settled_at<'a>(
     endpoints: &BTreeMap<Guid, Kept<'a>>,
     guid: Guid,
 ) -> Option<Endpoint<'a>>
-    ensures { option_map endpoint_value result ≡ agreed_entry (entry_at (entries_value endpoints.now.entries) guid) }
+    ensures { option_map endpoint_spec.endpoint_value result ≡ directory.agreed (directory.entry_at (kept_spec.entries_value endpoints.now.entries) guid) }
 {
     match endpoints.get(&guid) {
         Some(kept) => agreed(kept),
@@ -119,7 +119,7 @@ pub(crate) fn settled_at<'a>(
 
 /// The endpoint of a GUID whose announcements agree.
 fn agreed<'a>(kept: &Kept<'a>) -> Option<Endpoint<'a>>
-    ensures { option_map endpoint_value result ≡ kept_value kept.now }
+    ensures { option_map endpoint_spec.endpoint_value result ≡ kept_spec.kept_value kept.now }
 {
     if kept.settled {
         Some(kept.endpoint)

@@ -1,11 +1,9 @@
-ghost use Rattle.std.specs.Prelude.{◌≡◌, option_and_then, true};
+ghost use Rattle.std.specs.Prelude.{◌≡◌, true};
 ghost use Rattle.std.specs.Option.{option_copied, option_map};
-ghost use Rattle.rtps_params.specs.Lists.{list_value};
-ghost use Rattle.rtps_params.specs.Values.{guid_of};
-ghost use Rattle.rtps_receiver.specs.Speech.{origin_of};
-ghost use Rattle.rtps_receiver.specs.Values.{ActValue, spoken_value};
-ghost use Rattle.rtps_wire.specs.Values.{data_value, payload_value};
-ghost use Rattle.rtps_discovery.specs.Leaving.{is_one_of};
+ghost use Rattle.rtps_params.specs.Lists as lists;
+ghost use Rattle.rtps_receiver.specs.Speech as speech;
+ghost use Rattle.rtps_receiver.specs.Values as receiver_values;
+ghost use Rattle.rtps_wire.specs.Values as wire_values;
 ghost use Rattle.rtps_discovery.specs.Leaving as leaving;
 ghost use Rattle.rtps_discovery.specs.Notice as notice;
 
@@ -21,7 +19,7 @@ use rtps_wire::{DataBody, Payload};
 
 /// The value of a parameter of one sample alone.
 fn inline_value<'a>(qos: &Option<ParamList<'a>>, pid: u16) -> Option<&'a [u8]>
-    ensures { option_copied result ≡ leaving.inline_value pid (option_map list_value qos.now) }
+    ensures { option_copied result ≡ leaving.inline_value pid (option_map lists.list_value qos.now) }
 {
     match qos {
         Some(list) => list.first(pid),
@@ -41,7 +39,7 @@ fn is_ending(value: Option<&[u8]>) -> bool
 
 /// The GUID under an id in a payload, a whole one or a key.
 fn guid_in_payload(payload: &Payload<'_>, pid: u16) -> Option<Guid>
-    ensures { result ≡ leaving.guid_in_payload pid (payload_value payload.now) }
+    ensures { result ≡ leaving.guid_in_payload pid (wire_values.payload_value payload.now) }
 {
     let octets = match payload {
         Payload::Whole(octets) => *octets,
@@ -56,7 +54,7 @@ fn guid_in_payload(payload: &Payload<'_>, pid: u16) -> Option<Guid>
 
 /// The GUID under an id in the payload of a DATA, or else the one in its key hash.
 fn key_of(body: &DataBody<'_>, pid: u16) -> Option<Guid>
-    ensures { result ≡ leaving.key_of pid (data_value body.now) }
+    ensures { result ≡ leaving.key_of pid (wire_values.data_value body.now) }
 {
     match guid_in_payload(&body.payload, pid) {
         Some(guid) => Some(guid),
@@ -66,7 +64,7 @@ fn key_of(body: &DataBody<'_>, pid: u16) -> Option<Guid>
 
 /// Whether a DATA of what announces readers, or participants, has the key of the reader, or of its participant.
 fn has_key_of(body: &DataBody<'_>, reader: Guid) -> bool
-    ensures { result ≡ leaving.has_key_of reader (notice.subject_of body.now.writer) (data_value body.now) }
+    ensures { result ≡ leaving.has_key_of reader (notice.subject_of body.now.writer) (wire_values.data_value body.now) }
 {
     match subject_of(body.writer) {
         Some(Subject::Participant) => match key_of(body, PARTICIPANT_GUID) {
@@ -85,7 +83,7 @@ fn has_key_of(body: &DataBody<'_>, reader: Guid) -> bool
 /// Whether an act says that this reader leaves: its participant disposes or unregisters the reader, or itself, to whomever
 /// (DDSI-RTPS 2.5, 9.6.4.9 "StatusInfo_t (PID_STATUS_INFO)").
 pub fn leaves(act: &Spoken<'_>, reader: Guid) -> bool
-    ensures { result ≡ leaving.leaves reader (spoken_value act.now) }
+    ensures { result ≡ leaving.leaves reader (receiver_values.spoken_value act.now) }
 {
     if act.source != reader.prefix {
         return false;
@@ -106,7 +104,7 @@ pub fn leaves(act: &Spoken<'_>, reader: Guid) -> bool
 /// The built-in writers of a reader's participant: of its readers, and of itself. No other says that the reader leaves.
 #[tactic(auto, using(crate::proofs::Leavers::left_by_one))]
 pub fn leaving_writers(reader: Guid) -> (Guid, Guid)
-    ensures { (act : ActValue) → leaving.leaves reader act ≡ true → is_one_of result.0 result.1 (origin_of act) ≡ true }
+    ensures { (act : receiver_values.ActValue) → leaving.leaves reader act ≡ true → leaving.is_one_of result.0 result.1 (speech.origin_of act) ≡ true }
 {
     let readers = Guid {
         prefix: reader.prefix,

@@ -1,6 +1,5 @@
 ghost use Rattle.std.specs.Prelude.{◌≡◌, ◌↔◌, filter, IfOk, IsTrue};
-ghost use Rattle.rtps_discovery.specs.Endpoint.{endpoint_value};
-ghost use Rattle.rtps_discovery.specs.Matching.{Matches, is_match, is_reliable};
+ghost use Rattle.rtps_discovery.specs.Endpoint as endpoint;
 ghost use Rattle.rtps_discovery.specs.Matching as matching;
 
 use crate::endpoint::{Endpoint, Reliability, Side};
@@ -26,15 +25,15 @@ pub struct Match {
 /// than the writer offers (DDS 1.4, 2.2.3.4 "DURABILITY" and 2.2.3.14 "RELIABILITY"). False unless the first is a writer
 /// and the second a reader.
 pub fn matches(writer: &Endpoint<'_>, reader: &Endpoint<'_>) -> bool
-    ensures meaning { IsTrue result ↔ Matches (endpoint_value writer.now) (endpoint_value reader.now) }
-    ensures test { result ≡ is_match (endpoint_value writer.now) (endpoint_value reader.now) }
+    ensures meaning { IsTrue result ↔ matching.Matches (endpoint.endpoint_value writer.now) (endpoint.endpoint_value reader.now) }
+    ensures test { result ≡ matching.is_match (endpoint.endpoint_value writer.now) (endpoint.endpoint_value reader.now) }
 {
     suits(writer, reader)
 }
 
 /// Whether they match. [`matches`] has a second clause, with the test.
 fn suits(writer: &Endpoint<'_>, reader: &Endpoint<'_>) -> bool
-    ensures { IsTrue result ↔ Matches (endpoint_value writer.now) (endpoint_value reader.now) }
+    ensures { IsTrue result ↔ matching.Matches (endpoint.endpoint_value writer.now) (endpoint.endpoint_value reader.now) }
 {
     writer.side == Side::Writer
         && reader.side == Side::Reader
@@ -46,7 +45,7 @@ fn suits(writer: &Endpoint<'_>, reader: &Endpoint<'_>) -> bool
 
 /// The match of a writer and a reader that match.
 pub(crate) fn match_of(writer: &Endpoint<'_>, reader: &Endpoint<'_>) -> Match
-    ensures { result ≡ matching.match_of (endpoint_value writer.now) (endpoint_value reader.now) }
+    ensures { result ≡ matching.match_of (endpoint.endpoint_value writer.now) (endpoint.endpoint_value reader.now) }
 {
     Match {
         pair: Pair {
@@ -63,7 +62,7 @@ pub(crate) fn reliable_among<'a>(
     alloc: Global,
     endpoints: &[Endpoint<'a>],
 ) -> Result<Vec<Endpoint<'a>>, Memory>
-    ensures { IfOk result (λ reliable. reliable.items ≡ filter (λ endpoint. is_reliable endpoint.reliability) endpoints.now) }
+    ensures { IfOk result (λ reliable. reliable.items ≡ filter (λ endpoint. matching.is_reliable endpoint.reliability) endpoints.now) }
 {
     let mut reliable = Vec::new(alloc);
     for endpoint in endpoints {

@@ -1,8 +1,7 @@
 ghost use Rattle.std.specs.Prelude.{◌≡◌};
 ghost use Rattle.std.specs.Option.{option_map};
-ghost use Rattle.rtps_discovery.specs.Notice.{notice_in};
 ghost use Rattle.rtps_discovery.specs.Notice as notice_spec;
-ghost use Rattle.rtps_receiver.specs.Values.{spoken_value};
+ghost use Rattle.rtps_receiver.specs.Values as values;
 
 use crate::endpoint::Side;
 use crate::fault::NoticeFault;
@@ -31,7 +30,7 @@ pub(crate) enum Subject {
 
 /// What an act announces, and the payload that does so. None if it is no announcement.
 pub(crate) fn notice<'a>(act: &Spoken<'a>) -> Option<(Subject, &'a [u8])>
-    ensures { option_map (λ notice. (notice.0, notice.1.now)) result ≡ notice_in (spoken_value act.now).body }
+    ensures { option_map (λ notice. (notice.0, notice.1.now)) result ≡ notice_spec.notice_in (values.spoken_value act.now).body }
 {
     let SpokenBody::Act(ActBody::Data(data)) = &act.body else {
         return None;

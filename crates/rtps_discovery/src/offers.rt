@@ -1,7 +1,6 @@
 ghost use Rattle.std.specs.Prelude.{◌≡◌, ◌<◌, length, IfOk};
 ghost use Rattle.std.specs.List.{list_any};
 ghost use Rattle.rtps_discovery.specs.Matching as matching;
-ghost use Rattle.rtps_discovery.specs.Offers.{AreWithin, makes};
 ghost use Rattle.rtps_discovery.specs.Offers as offers_spec;
 
 use crate::endpoint::{Durability, Endpoint, Reliability, Side};
@@ -52,14 +51,14 @@ fn asks_within(reader: &Endpoint<'_>, offer: usize) -> bool
 
 /// Whether an endpoint is a writer that makes this offer.
 fn is_made_by(endpoint: &Endpoint<'_>, offer: usize) -> bool
-    ensures { result ≡ makes offer endpoint.now }
+    ensures { result ≡ offers_spec.makes offer endpoint.now }
 {
     endpoint.side == Side::Writer && offer_of(endpoint) == offer
 }
 
 /// Whether any writer among endpoints makes this offer.
 fn is_made(endpoints: &[Endpoint<'_>], offer: usize) -> bool
-    ensures { result ≡ list_any (makes offer) endpoints.now }
+    ensures { result ≡ list_any (offers_spec.makes offer) endpoints.now }
 {
     endpoints.iter().any(|endpoint| is_made_by(endpoint, offer))
 }
@@ -93,7 +92,7 @@ pub(crate) fn readers_by_offer<'a>(
     readers: &[Endpoint<'a>],
 ) -> Result<Vec<Vec<Endpoint<'a>>>, Memory>
     ensures each { IfOk result (λ lists. length lists.items ≡ 8) }
-    ensures lists { IfOk result (λ lists. AreWithin endpoints.now readers.now lists.items) }
+    ensures lists { IfOk result (λ lists. offers_spec.AreWithin endpoints.now readers.now lists.items) }
 {
     let mut lists = Vec::with_capacity(alloc, OFFERS)?;
     for offer in 0..OFFERS {

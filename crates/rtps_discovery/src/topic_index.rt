@@ -1,8 +1,6 @@
 ghost use Rattle.std.specs.Prelude.{◌≡◌, ◌++◌, IfOk, OnOk, filter, map};
-ghost use Rattle.rtps_discovery.specs.Endpoint.{endpoint_value};
-ghost use Rattle.rtps_discovery.specs.Matching.{matches_of};
+ghost use Rattle.rtps_discovery.specs.Endpoint as endpoint;
 ghost use Rattle.rtps_discovery.specs.Matching as matching;
-ghost use Rattle.rtps_discovery.specs.TopicIndex.{IsByTopic, IsByType, IsByTypeInTopics, KeepsTypes, has_topic, has_type};
 ghost use Rattle.rtps_discovery.specs.TopicIndex as topic_index;
 
 use crate::endpoint::{Endpoint, Side};
@@ -14,7 +12,7 @@ use std::alloc::Global;
 /// The matches among endpoints, writer by writer. A writer is compared only with the readers of its topic and its type
 /// that ask for no more than it offers.
 pub(crate) fn matches_among(alloc: Global, endpoints: &[Endpoint<'_>]) -> Result<Vec<Match>, Memory>
-    ensures { IfOk result (λ found. found.items ≡ matching.matches_among (map endpoint_value endpoints.now)) }
+    ensures { IfOk result (λ found. found.items ≡ matching.matches_among (map endpoint.endpoint_value endpoints.now)) }
 {
     let readers = readers_by_topic(alloc, endpoints)?;
     let by_offer = readers_by_offer(alloc, endpoints, &readers)?;
@@ -34,9 +32,9 @@ fn readers_by_topic<'a>(
     alloc: Global,
     endpoints: &[Endpoint<'a>],
 ) -> Result<Vec<Endpoint<'a>>, Memory>
-    ensures sorted { IfOk result (λ readers. IsByTopic readers.items) }
-    ensures typed { IfOk result (λ readers. IsByTypeInTopics readers.items) }
-    ensures stable { IfOk result (λ readers. KeepsTypes (topic_index.readers_among endpoints.now) readers.items) }
+    ensures sorted { IfOk result (λ readers. topic_index.IsByTopic readers.items) }
+    ensures typed { IfOk result (λ readers. topic_index.IsByTypeInTopics readers.items) }
+    ensures stable { IfOk result (λ readers. topic_index.KeepsTypes (topic_index.readers_among endpoints.now) readers.items) }
 {
     let mut readers = readers_among(alloc, endpoints)?;
     readers.sort_by_key(|reader| reader.type_name)?;
@@ -59,8 +57,8 @@ fn readers_among<'a>(alloc: Global, endpoints: &[Endpoint<'a>]) -> Result<Vec<En
 
 /// The readers of a topic, among readers that are sorted by topic.
 fn readers_of<'r, 'a>(readers: &'r [Endpoint<'a>], topic: &[u8]) -> &'r [Endpoint<'a>]
-    requires { IsByTopic readers.now }
-    ensures { result.now ≡ filter (has_topic topic.now) readers.now }
+    requires { topic_index.IsByTopic readers.now }
+    ensures { result.now ≡ filter (topic_index.has_topic topic.now) readers.now }
 {
     let start = readers.partition_point(|reader| reader.topic.cmp(&topic).is_lt());
     let behind = &readers[start..];
@@ -70,8 +68,8 @@ fn readers_of<'r, 'a>(readers: &'r [Endpoint<'a>], topic: &[u8]) -> &'r [Endpoin
 
 /// The readers of a type, among readers that are sorted by type.
 fn of_one_type<'r, 'a>(readers: &'r [Endpoint<'a>], type_name: &[u8]) -> &'r [Endpoint<'a>]
-    requires { IsByType readers.now }
-    ensures { result.now ≡ filter (has_type type_name.now) readers.now }
+    requires { topic_index.IsByType readers.now }
+    ensures { result.now ≡ filter (topic_index.has_type type_name.now) readers.now }
 {
     let start = readers.partition_point(|reader| reader.type_name.cmp(&type_name).is_lt());
     let behind = &readers[start..];
@@ -86,7 +84,7 @@ fn push_matches(
     readers: &[Endpoint<'_>],
 ) -> Result<(), Memory>
     ensures { OnOk result (found.new.items
-        ≡ found.old.items ++ matches_of (endpoint_value writer.now) (map endpoint_value readers.now)) }
+        ≡ found.old.items ++ matching.matches_of (endpoint.endpoint_value writer.now) (map endpoint.endpoint_value readers.now)) }
 {
     for reader in readers {
         if matches(writer, reader) {

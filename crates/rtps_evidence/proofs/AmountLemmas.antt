@@ -4,26 +4,26 @@ use Rattle.std.specs.Prelude.{is_some}
 use Rattle.std.specs.List.{list_any}
 use Rattle.rtps_ids.specs.declared.identity.Guid.{Guid}
 use Rattle.std.proofs.lemmas.Bool.Decides.{nat_tests}
-use Rattle.rtps_receiver.specs.Said.{IsRangeOf, numbers_have}
+use Rattle.rtps_receiver.specs.Said as said
 use Rattle.rtps_receiver.specs.declared.said.Numbers.{Numbers}
 use Rattle.rtps_receiver.proofs.Offered.{below, range_more}
-use Rattle.rtps_coverage.specs.Counts.{count_in}
-use Rattle.rtps_coverage.specs.Stretches.{stretches_have}
+use Rattle.rtps_coverage.specs.Counts as counts
+use Rattle.rtps_coverage.specs.Stretches as stretches
 use Rattle.rtps_coverage.specs.declared.stretch.Stretch.{Stretch}
 use Rattle.rtps_coverage.proofs.Offered.{count_others, count_rest, count_same}
-use Rattle.rtps_audit.specs.Delivery.{Word}
-use Rattle.rtps_audit.specs.Placed.{PlacedValue}
-use Rattle.rtps_audit.specs.Speech.{word_for}
-use Rattle.rtps_evidence.specs.Amount.{AreAmounts, is_sent, is_told}
-use Rattle.rtps_evidence.specs.Locations.{payload_in, sends, tells}
+use Rattle.rtps_audit.specs.Delivery as delivery
+use Rattle.rtps_audit.specs.Placed as placed
+use Rattle.rtps_audit.specs.Speech as speech
+use Rattle.rtps_evidence.specs.Amount as amount
+use Rattle.rtps_evidence.specs.Locations as locations
 
 -- ---- a range more
 
 -- of the numbers from `from` on
-pub from_more : (numbers : Numbers) (from at lo hi n : ℕ) (old : Bool) → from ≤ at → IsRangeOf numbers at lo hi
-    → ((old || (nat_le from n && below (numbers_have numbers) at n)) || (nat_le lo n && nat_lt n hi)) ≡ (old || (nat_le from n && below (numbers_have numbers) hi n))
+pub from_more : (numbers : Numbers) (from at lo hi n : ℕ) (old : Bool) → from ≤ at → said.IsRangeOf numbers at lo hi
+    → ((old || (nat_le from n && below (said.numbers_have numbers) at n)) || (nat_le lo n && nat_lt n hi)) ≡ (old || (nat_le from n && below (said.numbers_have numbers) hi n))
 from_more numbers from at lo hi n old le range =
-    apart old (nat_le from n) (below (numbers_have numbers) at n) (nat_le lo n && nat_lt n hi) inside ∙ ap (λ b. old || (nat_le from n && b)) (sym (range_more numbers at lo hi range n))
+    apart old (nat_le from n) (below (said.numbers_have numbers) at n) (nat_le lo n && nat_lt n hi) inside ∙ ap (λ b. old || (nat_le from n && b)) (sym (range_more numbers at lo hi range n))
   where
     inside : (nat_le lo n && nat_lt n hi) ≡ true → nat_le from n ≡ true
     inside is = let onward = range.onward in grind (arith, nat_tests, onward)
@@ -35,11 +35,11 @@ from_more numbers from at lo hi n old le range =
     apart false false b false h = refl
 
 -- of the numbers below an end
-pub below_more : (numbers : Numbers) (end at lo hi n : ℕ) (old : Bool) → IsRangeOf numbers at lo hi
-    → ((old || (nat_lt n end && below (numbers_have numbers) at n)) || (nat_le lo n && nat_lt n (min hi end))) ≡ (old || (nat_lt n end && below (numbers_have numbers) hi n))
+pub below_more : (numbers : Numbers) (end at lo hi n : ℕ) (old : Bool) → said.IsRangeOf numbers at lo hi
+    → ((old || (nat_lt n end && below (said.numbers_have numbers) at n)) || (nat_le lo n && nat_lt n (min hi end))) ≡ (old || (nat_lt n end && below (said.numbers_have numbers) hi n))
 below_more numbers end at lo hi n old range =
-    ap (λ b. (old || (nat_lt n end && below (numbers_have numbers) at n)) || (nat_le lo n && b)) both
-    ∙ apart old (nat_lt n end) (below (numbers_have numbers) at n) (nat_le lo n) (nat_lt n hi)
+    ap (λ b. (old || (nat_lt n end && below (said.numbers_have numbers) at n)) || (nat_le lo n && b)) both
+    ∙ apart old (nat_lt n end) (below (said.numbers_have numbers) at n) (nat_le lo n) (nat_lt n hi)
     ∙ ap (λ b. old || (nat_lt n end && b)) (sym (range_more numbers at lo hi range n))
   where
     both : nat_lt n (min hi end) ≡ (nat_lt n hi && nat_lt n end)
@@ -69,15 +69,15 @@ told_apart claimed n t g p s w told is = gone_apart claimed n (t || s) g p w ∙
 
 -- ---- nothing was heard
 
-pub none_sent : (early late : List Stretch) (n : ℕ) → early ≡ [] → late ≡ [] → (stretches_have early n || stretches_have late n) ≡ false
-none_sent early late n e l = ap (λ s. stretches_have s n || stretches_have late n) e ∙ ap (λ s. stretches_have s n) l
+pub none_sent : (early late : List Stretch) (n : ℕ) → early ≡ [] → late ≡ [] → (stretches.stretches_have early n || stretches.stretches_have late n) ≡ false
+none_sent early late n e l = ap (λ s. stretches.stretches_have s n || stretches.stretches_have late n) e ∙ ap (λ s. stretches.stretches_have s n) l
 
 pub none_kept : (early late gone gone_late : List Stretch) (n : ℕ) → early ≡ [] → late ≡ [] → gone ≡ [] → gone_late ≡ []
-    → (((stretches_have early n || stretches_have late n) || stretches_have gone n) || stretches_have gone_late n) ≡ false
+    → (((stretches.stretches_have early n || stretches.stretches_have late n) || stretches.stretches_have gone n) || stretches.stretches_have gone_late n) ≡ false
 none_kept early late gone gone_late n e l g p =
-    ap (λ b. (b || stretches_have gone n) || stretches_have gone_late n) (none_sent early late n e l)
-    ∙ ap (λ s. stretches_have s n || stretches_have gone_late n) g
-    ∙ ap (λ s. stretches_have s n) p
+    ap (λ b. (b || stretches.stretches_have gone n) || stretches.stretches_have gone_late n) (none_sent early late n e l)
+    ∙ ap (λ s. stretches.stretches_have s n || stretches.stretches_have gone_late n) g
+    ∙ ap (λ s. stretches.stretches_have s n) p
 
 -- ---- payloads among words
 
@@ -92,23 +92,23 @@ any_weaker p q h (x ∷ xs) e = either (p x) (q x) (list_any p xs) (list_any q x
     either false false c d f g e = g e
 
 -- a number that has a payload has a word
-pub sent_is_told : (writer reader : Guid) (acts : List PlacedValue) (n : ℕ) → is_sent writer reader acts n ≡ true → is_told writer reader acts n ≡ true
-sent_is_told writer reader acts n = any_weaker (sends writer reader n) (tells writer reader n) (λ placed. by_word (word_for writer reader placed.act n)) acts
+pub sent_is_told : (writer reader : Guid) (acts : List placed.PlacedValue) (n : ℕ) → amount.is_sent writer reader acts n ≡ true → amount.is_told writer reader acts n ≡ true
+sent_is_told writer reader acts n = any_weaker (locations.sends writer reader n) (locations.tells writer reader n) (λ placed. by_word (speech.word_for writer reader placed.act n)) acts
   where
-    by_word : (word : Option Word) → is_some (payload_in word) ≡ true → is_some word ≡ true
+    by_word : (word : Option delivery.Word) → is_some (locations.payload_in word) ≡ true → is_some word ≡ true
     by_word None e = e
     by_word (Some word) e = refl
 
 -- the amounts, by the counts of the stretches
-pub amounts_counted : (from last : ℕ) (writer reader : Guid) (acts : List PlacedValue) (sent_has told_has : ℕ → Bool) (payloads told : ℕ)
-    → ((n : ℕ) → sent_has n ≡ is_sent writer reader acts n) → ((n : ℕ) → told_has n ≡ is_told writer reader acts n)
-    → payloads ≡ count_in sent_has from (last + 1) → told ≡ count_in told_has from (last + 1)
-    → AreAmounts from last writer reader acts (record { payloads = payloads; gone = told - payloads; untold = last + 1 - from - told })
+pub amounts_counted : (from last : ℕ) (writer reader : Guid) (acts : List placed.PlacedValue) (sent_has told_has : ℕ → Bool) (payloads told : ℕ)
+    → ((n : ℕ) → sent_has n ≡ amount.is_sent writer reader acts n) → ((n : ℕ) → told_has n ≡ amount.is_told writer reader acts n)
+    → payloads ≡ counts.count_in sent_has from (last + 1) → told ≡ counts.count_in told_has from (last + 1)
+    → amount.AreAmounts from last writer reader acts (record { payloads = payloads; gone = told - payloads; untold = last + 1 - from - told })
 amounts_counted from last writer reader acts sent_has told_has payloads told sent_is told_is payloads_is told_counted =
-    let a : payloads ≡ count_in (is_sent writer reader acts) from (last + 1) = payloads_is ∙ count_same sent_has (is_sent writer reader acts) from (last + 1) (λ n x y. sent_is n) in
-    let b : told ≡ count_in (is_told writer reader acts) from (last + 1) = told_counted ∙ count_same told_has (is_told writer reader acts) from (last + 1) (λ n x y. told_is n) in
-    let rest : count_in (is_told writer reader acts) from (last + 1) ≡ count_in (is_sent writer reader acts) from (last + 1) + count_in (λ n. is_told writer reader acts n && not (is_sent writer reader acts n)) from (last + 1) =
-    count_rest (is_sent writer reader acts) (is_told writer reader acts) from (last + 1) (sent_is_told writer reader acts) in
-    let others : last + 1 - from ≡ count_in (is_told writer reader acts) from (last + 1) + count_in (λ n. not (is_told writer reader acts n)) from (last + 1) =
-    count_others (is_told writer reader acts) from (last + 1) in
+    let a : payloads ≡ counts.count_in (amount.is_sent writer reader acts) from (last + 1) = payloads_is ∙ count_same sent_has (amount.is_sent writer reader acts) from (last + 1) (λ n x y. sent_is n) in
+    let b : told ≡ counts.count_in (amount.is_told writer reader acts) from (last + 1) = told_counted ∙ count_same told_has (amount.is_told writer reader acts) from (last + 1) (λ n x y. told_is n) in
+    let rest : counts.count_in (amount.is_told writer reader acts) from (last + 1) ≡ counts.count_in (amount.is_sent writer reader acts) from (last + 1) + counts.count_in (λ n. amount.is_told writer reader acts n && not (amount.is_sent writer reader acts n)) from (last + 1) =
+    count_rest (amount.is_sent writer reader acts) (amount.is_told writer reader acts) from (last + 1) (sent_is_told writer reader acts) in
+    let others : last + 1 - from ≡ counts.count_in (amount.is_told writer reader acts) from (last + 1) + counts.count_in (λ n. not (amount.is_told writer reader acts n)) from (last + 1) =
+    count_others (amount.is_told writer reader acts) from (last + 1) in
     record { payloads = a; gone = omega arith; untold = omega arith }

@@ -6,7 +6,7 @@ use Rattle.std.specs.List.{find, list_any}
 use Rattle.std.specs.Option.{option_or}
 use Rattle.std.proofs.lemmas.List.{map-append, take_more, take-append-drop}
 use Rattle.std.proofs.lemmas.List.Folds.{find-append, list_any-append}
-use Rattle.rtps_audit.specs.Delivery.{greatest}
+use Rattle.rtps_audit.specs.Delivery as delivery
 use Rattle.rtps_audit.proofs.Offered.{greatest-append}
 
 find_past : {X : Type 0} (test : X → Bool) (x : X) (keeps : Bool) (xs : List X) → (test x ≡ true → keeps ≡ true) → find test (cond keeps (x ∷ xs) xs) ≡ cond (test x) (Some x) (find test xs)
@@ -66,10 +66,10 @@ any_found v test xs i x lt at is =
 
 -- ---- the greatest of what is made of each
 
-pub greatest_past : {X Y : Type 0} (v : X → Y) (number : Y → ℕ) (xs : List X) (i : ℕ) (x : X) → i < length xs → x ≡ get_or xs i x → greatest (map number (map v (take (i + 1) xs))) ≡ max (greatest (map number (map v (take i xs)))) (number (v x))
+pub greatest_past : {X Y : Type 0} (v : X → Y) (number : Y → ℕ) (xs : List X) (i : ℕ) (x : X) → i < length xs → x ≡ get_or xs i x → delivery.greatest (map number (map v (take (i + 1) xs))) ≡ max (delivery.greatest (map number (map v (take i xs)))) (number (v x))
 greatest_past v number xs i x lt at = grind (arith, nat_tests, common_steps, take_more, map-append, greatest-append)
 
-pub greatest_of_each : {X : Type 0} (number : X → ℕ) (xs : List X) (i : ℕ) (d : X) → i < length xs → greatest (map number (take (i + 1) xs)) ≡ max (greatest (map number (take i xs))) (number (get_or xs i d))
+pub greatest_of_each : {X : Type 0} (number : X → ℕ) (xs : List X) (i : ℕ) (d : X) → i < length xs → delivery.greatest (map number (take (i + 1) xs)) ≡ max (delivery.greatest (map number (take i xs))) (number (get_or xs i d))
 greatest_of_each number xs i d lt = grind (arith, nat_tests, common_steps, take_more, map-append, greatest-append)
 
 -- ---- tests of two numbers

@@ -5,7 +5,7 @@ use Rattle.std.proofs.Common.{◌≡◌, ◌∙◌, ℕ, zero, suc, ◌+◌, ◌
 use Rattle.std.specs.List.{range_with_len}
 use Rattle.std.proofs.lemmas.Bool.{cases_lt}
 use Rattle.std.proofs.lemmas.List.{append-nil, append_assoc, length-append, set_at, take-append-le, take_all, take_at}
-use Rattle.rtps_evidence.specs.FirstNumbers.{KeptNumbersAreThere, first_ten, kept}
+use Rattle.rtps_evidence.specs.FirstNumbers as first_numbers
 use Rattle.rtps_evidence.specs.declared.first_numbers.FirstNumbers.{FirstNumbers}
 
 -- ---- in ten places
@@ -16,8 +16,8 @@ place_more : (numbers : List ℕ) (number room count : ℕ) → count ≡ length
 place_more numbers number room count many = grind (arith, nat_tests, common_steps, set_at, replicate, append_assoc)
 
 -- one number more is kept
-pub kept_more : (numbers : List ℕ) (number : ℕ) (old : FirstNumbers) → old.count < 10 → old ≡ kept numbers
-    → record { places = set old.places old.count number; count = old.count + 1 } ≡ kept (numbers ++ number ∷ [])
+pub kept_more : (numbers : List ℕ) (number : ℕ) (old : FirstNumbers) → old.count < 10 → old ≡ first_numbers.kept numbers
+    → record { places = set old.places old.count number; count = old.count + 1 } ≡ first_numbers.kept (numbers ++ number ∷ [])
 kept_more numbers number old few is =
     let made : List ℕ → ℕ → FirstNumbers = λ p c. record { places = p; count = c } in
     let new : List ℕ = numbers ++ number ∷ [] in
@@ -32,7 +32,7 @@ kept_more numbers number old few is =
     ap (λ p. made p (old.count + 1)) places ∙ ap (made (new ++ replicate (10 - length new) 0)) count
 
 -- the numbers that are kept are there
-pub kept_numbers_are_there : KeptNumbersAreThere
+pub kept_numbers_are_there : first_numbers.KeptNumbersAreThere
 kept_numbers_are_there = λ numbers. take_at numbers (replicate (10 - length numbers) 0) (length numbers) refl
 
 -- ---- numbers one after another
@@ -108,7 +108,7 @@ next_found has from end at next found new are low room onward within none inside
     }
 
 pub all_found : (has : ℕ → Bool) (from end at : ℕ) (found : List ℕ) → AreFound has from end at found
-    → (at < end → length found < 10 → ⊥) → found ≡ first_ten has from end
+    → (at < end → length found < 10 → ⊥) → found ≡ first_numbers.first_ten has from end
 all_found has from end at found are done = elim (cases_lt at end) [
   | inl low ↦
       let few = are.few in
@@ -127,15 +127,15 @@ all_found has from end at found are done = elim (cases_lt at end) [
 pub record AreKept (has : ℕ → Bool) (from end at : ℕ) (first : FirstNumbers) : Type 0 where
   pub found : List ℕ
   pub are : AreFound has from end at found
-  pub is : first ≡ kept found
+  pub is : first ≡ first_numbers.kept found
 
-pub none_kept : (has : ℕ → Bool) (from end at : ℕ) (first : FirstNumbers) → first ≡ kept [] → AreFound has from end at []
+pub none_kept : (has : ℕ → Bool) (from end at : ℕ) (first : FirstNumbers) → first ≡ first_numbers.kept [] → AreFound has from end at []
     → AreKept has from end at first
 none_kept has from end at first is are = record { found = []; are = are; is = is }
 
 pub next_kept : (has : ℕ → Bool) (from end at next : ℕ) (first new : FirstNumbers) → AreKept has from end at first
     → at < end → first.count < 10 → at + 1 ≤ next → next ≤ end → ((n : ℕ) → at + 1 ≤ n → n < next → has n ≡ false) → (next < end → has next ≡ true)
-    → ((numbers : List ℕ) → first ≡ kept numbers → new ≡ kept (numbers ++ at ∷ [])) → AreKept has from end next new
+    → ((numbers : List ℕ) → first ≡ first_numbers.kept numbers → new ≡ first_numbers.kept (numbers ++ at ∷ [])) → AreKept has from end next new
 next_kept has from end at next first new so_far low room onward within none inside more =
     let many : first.count ≡ length so_far.found = ap (λ (f : FirstNumbers). f.count) so_far.is in
     record {
@@ -145,10 +145,10 @@ next_kept has from end at next first new so_far low room onward within none insi
     }
 
 pub all_kept : (has : ℕ → Bool) (from end at : ℕ) (first : FirstNumbers) → AreKept has from end at first
-    → (at < end → first.count < 10 → ⊥) → first ≡ kept (first_ten has from end)
+    → (at < end → first.count < 10 → ⊥) → first ≡ first_numbers.kept (first_numbers.first_ten has from end)
 all_kept has from end at first so_far done =
     let many : first.count ≡ length so_far.found = ap (λ (f : FirstNumbers). f.count) so_far.is in
-    so_far.is ∙ ap kept (all_found has from end at so_far.found so_far.are (λ low room. done low (omega arith)))
+    so_far.is ∙ ap first_numbers.kept (all_found has from end at so_far.found so_far.are (λ low room. done low (omega arith)))
 
 -- ---- by two properties that agree
 
@@ -161,6 +161,6 @@ same_those one other lo (suc n) same =
     ∙ ap (λ l. cond (other lo) (lo ∷ l) l) (same_those one other (lo + 1) n (λ k a b. same k (omega arith) (omega arith)))
 
 pub first_same : (one other : ℕ → Bool) (lo hi : ℕ) → ((k : ℕ) → lo ≤ k → k < hi → one k ≡ other k)
-    → first_ten one lo hi ≡ first_ten other lo hi
+    → first_numbers.first_ten one lo hi ≡ first_numbers.first_ten other lo hi
 unfolding those
 first_same one other lo hi same = ap (take 10) (same_those one other lo (hi - lo) (λ k a b. same k a (omega arith)))

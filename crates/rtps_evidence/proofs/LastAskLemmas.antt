@@ -8,18 +8,18 @@ use Rattle.std.specs.Option.{option_map, option_or}
 use Rattle.std.proofs.lemmas.Bool.{and_parts}
 use Rattle.std.proofs.lemmas.List.{drop_more}
 use Rattle.rtps_discovery.specs.declared.matching.Pair.{Pair}
-use Rattle.rtps_audit.specs.Delivery.{greatest}
-use Rattle.rtps_audit.specs.Placed.{PlacedValue, is_from, placed_value}
+use Rattle.rtps_audit.specs.Delivery as delivery
+use Rattle.rtps_audit.specs.Placed as placed_spec
 use Rattle.rtps_audit.specs.declared.placed.Placed.{Placed}
-use Rattle.rtps_audit.specs.Speech.{base_of_body}
-use Rattle.rtps_receiver.specs.Said.{said}
-use Rattle.rtps_evidence.specs.CountedAnswers.{counted_among}
-use Rattle.rtps_evidence.specs.LastAsks.{ask_at, ask_of, excuses, lacks_at, last_ask}
-use Rattle.rtps_evidence.specs.Locations.{base_said, find_last, location_of}
-use Rattle.rtps_evidence.specs.LostAnswers.{answers, behind_last, is_claimed_then, lacks_by_answer}
-use Rattle.rtps_evidence.specs.Missed.{again_behind, is_excused_by, lacks_there}
-use Rattle.rtps_evidence.specs.Received.{claims}
-use Rattle.rtps_evidence.specs.Requests.{option_any}
+use Rattle.rtps_audit.specs.Speech as speech
+use Rattle.rtps_receiver.specs.Said as said
+use Rattle.rtps_evidence.specs.CountedAnswers as counted_answers
+use Rattle.rtps_evidence.specs.LastAsks as last_asks
+use Rattle.rtps_evidence.specs.Locations as locations
+use Rattle.rtps_evidence.specs.LostAnswers as lost_answers
+use Rattle.rtps_evidence.specs.Missed as missed
+use Rattle.rtps_evidence.specs.Received as received
+use Rattle.rtps_evidence.specs.Requests as requests
 use Rattle.rtps_evidence.specs.declared.last_asks.LastAsk.{LastAsk}
 use Rattle.rtps_evidence.specs.declared.location.Location.{Location}
 use Rattle.rtps_evidence.proofs.FindLemmas.{any_filter}
@@ -77,7 +77,7 @@ last_before x [] = refl
 last_before x (y ∷ ys) = sym (last_there y ys (Some x))
 
 -- none passes, or some do and one is the last
-none_kept : (test : PlacedValue → Bool) (xs : List PlacedValue) → list_any test xs ≡ false → filter test xs ≡ []
+none_kept : (test : placed_spec.PlacedValue → Bool) (xs : List placed_spec.PlacedValue) → list_any test xs ≡ false → filter test xs ≡ []
 none_kept test [] none = refl
 none_kept test (x ∷ xs) none = by (none_kept test xs) (test x) refl none
   where
@@ -85,59 +85,59 @@ none_kept test (x ∷ xs) none = by (none_kept test xs) (test x) refl none
     by onward true is none = absurd (let no : true ≡ false = none in cc)
     by onward false is none = onward none
 
-last_some : (y : PlacedValue) (ys : List PlacedValue) → (z : PlacedValue) × (last_or (Some y) ys ≡ Some z)
+last_some : (y : placed_spec.PlacedValue) (ys : List placed_spec.PlacedValue) → (z : placed_spec.PlacedValue) × (last_or (Some y) ys ≡ Some z)
 last_some y [] = (y, refl)
 last_some y (x ∷ xs) = last_some x xs
 
-some_kept : (test : PlacedValue → Bool) (xs : List PlacedValue) → list_any test xs ≡ true → (z : PlacedValue) × (find_last test xs ≡ Some z)
+some_kept : (test : placed_spec.PlacedValue → Bool) (xs : List placed_spec.PlacedValue) → list_any test xs ≡ true → (z : placed_spec.PlacedValue) × (locations.find_last test xs ≡ Some z)
 some_kept test [] some = absurd (let no : false ≡ true = some in cc)
 some_kept test (x ∷ xs) some = by (some_kept test xs) (test x) some
   where
-    by : (list_any test xs ≡ true → (z : PlacedValue) × (find_last test xs ≡ Some z)) → (b : Bool) → (b || list_any test xs) ≡ true → (z : PlacedValue) × (last_or None (cond b (x ∷ filter test xs) (filter test xs)) ≡ Some z)
+    by : (list_any test xs ≡ true → (z : placed_spec.PlacedValue) × (locations.find_last test xs ≡ Some z)) → (b : Bool) → (b || list_any test xs) ≡ true → (z : placed_spec.PlacedValue) × (last_or None (cond b (x ∷ filter test xs) (filter test xs)) ≡ Some z)
     by onward true some = last_some x (filter test xs)
     by onward false some = onward some
 
-pub asked_in_front : (pair : Pair) (x : PlacedValue) (xs : List PlacedValue) (n : ℕ)
-    → option_or (last_ask pair xs n) (cond (lacks_by_answer pair.writer pair.reader n x) (Some (ask_at (greatest (map (base_said pair.writer pair.reader) xs)) x)) None) ≡ last_ask pair (x ∷ xs) n
+pub asked_in_front : (pair : Pair) (x : placed_spec.PlacedValue) (xs : List placed_spec.PlacedValue) (n : ℕ)
+    → option_or (last_asks.last_ask pair xs n) (cond (lost_answers.lacks_by_answer pair.writer pair.reader n x) (Some (last_asks.ask_at (delivery.greatest (map (locations.base_said pair.writer pair.reader) xs)) x)) None) ≡ last_asks.last_ask pair (x ∷ xs) n
 asked_in_front pair x xs n = by (list_any test xs) refl (test x)
   where
-    test : PlacedValue → Bool
-    test = lacks_by_answer pair.writer pair.reader n
+    test : placed_spec.PlacedValue → Bool
+    test = lost_answers.lacks_by_answer pair.writer pair.reader n
 
     own : Option LastAsk
-    own = Some (ask_at (greatest (map (base_said pair.writer pair.reader) xs)) x)
+    own = Some (last_asks.ask_at (delivery.greatest (map (locations.base_said pair.writer pair.reader) xs)) x)
 
     by : (later : Bool) → list_any test xs ≡ later → (here : Bool)
-        → option_or (last_ask pair xs n) (cond here own None)
-        ≡ option_map (ask_of pair (cond later (behind_last test xs) (cond here xs []))) (last_or None (cond here (x ∷ filter test xs) (filter test xs)))
+        → option_or (last_asks.last_ask pair xs n) (cond here own None)
+        ≡ option_map (last_asks.ask_of pair (cond later (lost_answers.behind_last test xs) (cond here xs []))) (last_or None (cond here (x ∷ filter test xs) (filter test xs)))
     by false none true =
         let empty = none_kept test xs none in
-        ap (λ l. option_or (option_map (ask_of pair (behind_last test xs)) (last_or None l)) own) empty ∙ sym (ap (λ l. option_map (ask_of pair xs) (last_or (Some x) l)) empty)
+        ap (λ l. option_or (option_map (last_asks.ask_of pair (lost_answers.behind_last test xs)) (last_or None l)) own) empty ∙ sym (ap (λ l. option_map (last_asks.ask_of pair xs) (last_or (Some x) l)) empty)
     by false none false =
         let empty = none_kept test xs none in
-        ap (λ l. option_or (option_map (ask_of pair (behind_last test xs)) (last_or None l)) None) empty ∙ sym (ap (λ l. option_map (ask_of pair []) (last_or None l)) empty)
+        ap (λ l. option_or (option_map (last_asks.ask_of pair (lost_answers.behind_last test xs)) (last_or None l)) None) empty ∙ sym (ap (λ l. option_map (last_asks.ask_of pair []) (last_or None l)) empty)
     by true some true =
         let found = some_kept test xs some in
-        ap (λ o. option_or (option_map (ask_of pair (behind_last test xs)) o) own) found.1
-        ∙ sym (ap (option_map (ask_of pair (behind_last test xs))) (last_before x (filter test xs) ∙ ap (λ o. option_or o (Some x)) found.1))
+        ap (λ o. option_or (option_map (last_asks.ask_of pair (lost_answers.behind_last test xs)) o) own) found.1
+        ∙ sym (ap (option_map (last_asks.ask_of pair (lost_answers.behind_last test xs))) (last_before x (filter test xs) ∙ ap (λ o. option_or o (Some x)) found.1))
     by true some false =
         let found = some_kept test xs some in
-        ap (λ o. option_or (option_map (ask_of pair (behind_last test xs)) o) None) found.1 ∙ sym (ap (option_map (ask_of pair (behind_last test xs))) found.1)
+        ap (λ o. option_or (option_map (last_asks.ask_of pair (lost_answers.behind_last test xs)) o) None) found.1 ∙ sym (ap (option_map (last_asks.ask_of pair (lost_answers.behind_last test xs))) found.1)
 
 -- the same of those that are among some numbers
-pub front_more : (pair : Pair) (x : PlacedValue) (xs : List PlacedValue) (n : ℕ) (has : Bool) (below : ℕ) (old : Option LastAsk) → old ≡ cond has (last_ask pair xs n) None → below ≡ greatest (map (base_said pair.writer pair.reader) xs)
-    → option_or old (cond (lacks_by_answer pair.writer pair.reader n x && has) (Some (ask_at below x)) None) ≡ cond has (last_ask pair (x ∷ xs) n) None
+pub front_more : (pair : Pair) (x : placed_spec.PlacedValue) (xs : List placed_spec.PlacedValue) (n : ℕ) (has : Bool) (below : ℕ) (old : Option LastAsk) → old ≡ cond has (last_asks.last_ask pair xs n) None → below ≡ delivery.greatest (map (locations.base_said pair.writer pair.reader) xs)
+    → option_or old (cond (lost_answers.lacks_by_answer pair.writer pair.reader n x && has) (Some (last_asks.ask_at below x)) None) ≡ cond has (last_asks.last_ask pair (x ∷ xs) n) None
 front_more pair x xs n true below old is at =
-    ap (λ o. option_or o (cond (lacks_by_answer pair.writer pair.reader n x && true) (Some (ask_at below x)) None)) is
-    ∙ ap (λ b. option_or (last_ask pair xs n) (cond b (Some (ask_at below x)) None)) (and_yes (lacks_by_answer pair.writer pair.reader n x))
-    ∙ ap (λ m. option_or (last_ask pair xs n) (cond (lacks_by_answer pair.writer pair.reader n x) (Some (ask_at m x)) None)) at ∙ asked_in_front pair x xs n
+    ap (λ o. option_or o (cond (lost_answers.lacks_by_answer pair.writer pair.reader n x && true) (Some (last_asks.ask_at below x)) None)) is
+    ∙ ap (λ b. option_or (last_asks.last_ask pair xs n) (cond b (Some (last_asks.ask_at below x)) None)) (and_yes (lost_answers.lacks_by_answer pair.writer pair.reader n x))
+    ∙ ap (λ m. option_or (last_asks.last_ask pair xs n) (cond (lost_answers.lacks_by_answer pair.writer pair.reader n x) (Some (last_asks.ask_at m x)) None)) at ∙ asked_in_front pair x xs n
   where
     and_yes : (b : Bool) → (b && true) ≡ b
     and_yes true = refl
     and_yes false = refl
 front_more pair x xs n false below old is at =
-    ap (λ o. option_or o (cond (lacks_by_answer pair.writer pair.reader n x && false) (Some (ask_at below x)) None)) is
-    ∙ ap (λ b. option_or None (cond b (Some (ask_at below x)) None)) (and_no (lacks_by_answer pair.writer pair.reader n x))
+    ap (λ o. option_or o (cond (lost_answers.lacks_by_answer pair.writer pair.reader n x && false) (Some (last_asks.ask_at below x)) None)) is
+    ∙ ap (λ b. option_or None (cond b (Some (last_asks.ask_at below x)) None)) (and_no (lost_answers.lacks_by_answer pair.writer pair.reader n x))
   where
     and_no : (b : Bool) → (b && false) ≡ false
     and_no true = refl
@@ -145,13 +145,13 @@ front_more pair x xs n false below old is at =
 
 -- the last acts, with one more in front
 pub dropped_more : (acts : List Placed) (last : ℕ) (x : Placed) → last < length acts → x ≡ get_or acts (length acts - 1 - last) x
-    → map placed_value (drop (length acts - (last + 1)) acts) ≡ placed_value x ∷ map placed_value (drop (length acts - last) acts)
+    → map placed_spec.placed_value (drop (length acts - (last + 1)) acts) ≡ placed_spec.placed_value x ∷ map placed_spec.placed_value (drop (length acts - last) acts)
 dropped_more acts last x lt at =
     let same : length acts - (last + 1) ≡ length acts - 1 - last = omega (arith, lt) in
     let next : length acts - (last + 1) + 1 ≡ length acts - last = omega (arith, lt) in
-    ap (map placed_value) (drop_more acts (length acts - (last + 1)) x (omega (arith, lt)))
-    ∙ ap (λ y. placed_value y ∷ map placed_value (drop (length acts - (last + 1) + 1) acts)) (ap (λ k. get_or acts k x) same ∙ sym at)
-    ∙ ap (λ k. placed_value x ∷ map placed_value (drop k acts)) next
+    ap (map placed_spec.placed_value) (drop_more acts (length acts - (last + 1)) x (omega (arith, lt)))
+    ∙ ap (λ y. placed_spec.placed_value y ∷ map placed_spec.placed_value (drop (length acts - (last + 1) + 1) acts)) (ap (λ k. get_or acts k x) same ∙ sym at)
+    ∙ ap (λ k. placed_spec.placed_value x ∷ map placed_spec.placed_value (drop k acts)) next
 
 -- ---- what is claimed behind it
 
@@ -162,83 +162,83 @@ none_below : (n : ℕ) → nat_lt n 0 ≡ false
 none_below n = grind (arith, nat_tests)
 
 -- what the greatest base is above is claimed
-below_claimed : (pair : Pair) (n : ℕ) (xs : List PlacedValue) → nat_lt n (greatest (map (base_said pair.writer pair.reader) xs)) ≡ list_any (claims pair.writer pair.reader n) xs
+below_claimed : (pair : Pair) (n : ℕ) (xs : List placed_spec.PlacedValue) → nat_lt n (delivery.greatest (map (locations.base_said pair.writer pair.reader) xs)) ≡ list_any (received.claims pair.writer pair.reader n) xs
 below_claimed pair n [] = none_below n
 below_claimed pair n (x ∷ xs) =
-    below_or n (base_said pair.writer pair.reader x) (greatest (map (base_said pair.writer pair.reader) xs)) ∙ ap (λ b. nat_lt n (base_said pair.writer pair.reader x) || b) (below_claimed pair n xs)
+    below_or n (locations.base_said pair.writer pair.reader x) (delivery.greatest (map (locations.base_said pair.writer pair.reader) xs)) ∙ ap (λ b. nat_lt n (locations.base_said pair.writer pair.reader x) || b) (below_claimed pair n xs)
 
 -- where none passes, nothing stands behind the last one that does
-nothing : (test : PlacedValue → Bool) (ys : List PlacedValue) → list_any test ys ≡ false → behind_last test ys ≡ []
+nothing : (test : placed_spec.PlacedValue → Bool) (ys : List placed_spec.PlacedValue) → list_any test ys ≡ false → lost_answers.behind_last test ys ≡ []
 nothing test [] none = refl
 nothing test (y ∷ ys) none = on (test y) (list_any test ys) none
   where
-    on : (here later : Bool) → (here || later) ≡ false → cond later (behind_last test ys) (cond here ys []) ≡ []
+    on : (here later : Bool) → (here || later) ≡ false → cond later (lost_answers.behind_last test ys) (cond here ys []) ≡ []
     on true later none = absurd (let no : true ≡ false = none in cc)
     on false true none = absurd (let no : true ≡ false = none in cc)
     on false false none = refl
 
 -- where acts are left out that do not pass
-behind_kept : (test keeps : PlacedValue → Bool) → ((x : PlacedValue) → test x ≡ true → keeps x ≡ true) → (xs : List PlacedValue) → behind_last test (filter keeps xs) ≡ filter keeps (behind_last test xs)
+behind_kept : (test keeps : placed_spec.PlacedValue → Bool) → ((x : placed_spec.PlacedValue) → test x ≡ true → keeps x ≡ true) → (xs : List placed_spec.PlacedValue) → lost_answers.behind_last test (filter keeps xs) ≡ filter keeps (lost_answers.behind_last test xs)
 behind_kept test keeps h [] = refl
 behind_kept test keeps h (x ∷ xs) = by (behind_kept test keeps h xs) (keeps x) refl (test x) refl (list_any test xs) refl
   where
     same : list_any test (filter keeps xs) ≡ list_any test xs
     same = any_filter test keeps h xs
 
-    by : behind_last test (filter keeps xs) ≡ filter keeps (behind_last test xs) → (kept : Bool) → keeps x ≡ kept → (passes : Bool) → test x ≡ passes → (later : Bool) → list_any test xs ≡ later
-        → behind_last test (cond kept (x ∷ filter keeps xs) (filter keeps xs)) ≡ filter keeps (cond later (behind_last test xs) (cond passes xs []))
-    by rest true too passes is true some = ap (λ b. cond b (behind_last test (filter keeps xs)) (cond (test x) (filter keeps xs) [])) (same ∙ some) ∙ rest
-    by rest true too true is false none = ap (λ b. cond b (behind_last test (filter keeps xs)) (cond (test x) (filter keeps xs) [])) (same ∙ none) ∙ ap (λ b. cond b (filter keeps xs) []) is
-    by rest true too false is false none = ap (λ b. cond b (behind_last test (filter keeps xs)) (cond (test x) (filter keeps xs) [])) (same ∙ none) ∙ ap (λ b. cond b (filter keeps xs) []) is
+    by : lost_answers.behind_last test (filter keeps xs) ≡ filter keeps (lost_answers.behind_last test xs) → (kept : Bool) → keeps x ≡ kept → (passes : Bool) → test x ≡ passes → (later : Bool) → list_any test xs ≡ later
+        → lost_answers.behind_last test (cond kept (x ∷ filter keeps xs) (filter keeps xs)) ≡ filter keeps (cond later (lost_answers.behind_last test xs) (cond passes xs []))
+    by rest true too passes is true some = ap (λ b. cond b (lost_answers.behind_last test (filter keeps xs)) (cond (test x) (filter keeps xs) [])) (same ∙ some) ∙ rest
+    by rest true too true is false none = ap (λ b. cond b (lost_answers.behind_last test (filter keeps xs)) (cond (test x) (filter keeps xs) [])) (same ∙ none) ∙ ap (λ b. cond b (filter keeps xs) []) is
+    by rest true too false is false none = ap (λ b. cond b (lost_answers.behind_last test (filter keeps xs)) (cond (test x) (filter keeps xs) [])) (same ∙ none) ∙ ap (λ b. cond b (filter keeps xs) []) is
     by rest false out passes is true some = rest
     by rest false out true is false none = absurd (let clash : true ≡ false = sym (h x is) ∙ out in cc)
     by rest false out false is false none = rest ∙ ap (filter keeps) (nothing test xs none)
 
 -- ---- a reader's own acts
 
-own_asker : (pair : Pair) (n : ℕ) (x : PlacedValue) → lacks_by_answer pair.writer pair.reader n x ≡ true → is_from pair.reader x ≡ true
-own_asker pair n x is = answerer pair.writer pair.reader x (and_parts (answers pair.writer pair.reader x) ((said x.act.body).lacked n) is).0
+own_asker : (pair : Pair) (n : ℕ) (x : placed_spec.PlacedValue) → lost_answers.lacks_by_answer pair.writer pair.reader n x ≡ true → placed_spec.is_from pair.reader x ≡ true
+own_asker pair n x is = answerer pair.writer pair.reader x (and_parts (lost_answers.answers pair.writer pair.reader x) ((said.said x.act.body).lacked n) is).0
 
-none_said : (pair : Pair) (n : ℕ) (x : PlacedValue) → answers pair.writer pair.reader x ≡ false → claims pair.writer pair.reader n x ≡ false
-none_said pair n x silent = ap (λ b. nat_lt n (unwrap_or (cond b (base_of_body x.act.body) None) 0)) silent ∙ none_below n
+none_said : (pair : Pair) (n : ℕ) (x : placed_spec.PlacedValue) → lost_answers.answers pair.writer pair.reader x ≡ false → received.claims pair.writer pair.reader n x ≡ false
+none_said pair n x silent = ap (λ b. nat_lt n (unwrap_or (cond b (speech.base_of_body x.act.body) None) 0)) silent ∙ none_below n
 
 -- what a claim says is said by an answer
-own_claimer : (pair : Pair) (n : ℕ) (x : PlacedValue) → claims pair.writer pair.reader n x ≡ true → is_from pair.reader x ≡ true
-own_claimer pair n x is = by (answers pair.writer pair.reader x) refl
+own_claimer : (pair : Pair) (n : ℕ) (x : placed_spec.PlacedValue) → received.claims pair.writer pair.reader n x ≡ true → placed_spec.is_from pair.reader x ≡ true
+own_claimer pair n x is = by (lost_answers.answers pair.writer pair.reader x) refl
   where
-    by : (b : Bool) → answers pair.writer pair.reader x ≡ b → is_from pair.reader x ≡ true
+    by : (b : Bool) → lost_answers.answers pair.writer pair.reader x ≡ b → placed_spec.is_from pair.reader x ≡ true
     by true answer = answerer pair.writer pair.reader x answer
     by false silent = absurd (let no = none_said pair n x silent in let clash : true ≡ false = sym is ∙ no in cc)
 
 -- ---- what excuses a number
 
 -- by the last asks and the counted answers of the reader's own acts, and by the writer's own acts
-pub excused_told : (pair : Pair) (placed : List PlacedValue) (n : ℕ)
-    → option_any (excuses pair (counted_among pair (filter (is_from pair.reader) placed)) (filter (is_from pair.writer) placed) n) (last_ask pair (filter (is_from pair.reader) placed) n)
-    ≡ is_excused_by pair.writer pair.reader placed n (find_last (lacks_by_answer pair.writer pair.reader n) placed)
+pub excused_told : (pair : Pair) (placed : List placed_spec.PlacedValue) (n : ℕ)
+    → requests.option_any (last_asks.excuses pair (counted_answers.counted_among pair (filter (placed_spec.is_from pair.reader) placed)) (filter (placed_spec.is_from pair.writer) placed) n) (last_asks.last_ask pair (filter (placed_spec.is_from pair.reader) placed) n)
+    ≡ missed.is_excused_by pair.writer pair.reader placed n (locations.find_last (lost_answers.lacks_by_answer pair.writer pair.reader n) placed)
 excused_told pair placed n =
-    ap (λ o. option_any (excuses pair (counted_among pair own) (filter (is_from pair.writer) placed) n) (option_map (ask_of pair (behind_last test own)) o)) (ap (last_or None) (filter_filter test (is_from pair.reader) (own_asker pair n) placed))
-    ∙ by (find_last test placed)
+    ap (λ o. requests.option_any (last_asks.excuses pair (counted_answers.counted_among pair own) (filter (placed_spec.is_from pair.writer) placed) n) (option_map (last_asks.ask_of pair (lost_answers.behind_last test own)) o)) (ap (last_or None) (filter_filter test (placed_spec.is_from pair.reader) (own_asker pair n) placed))
+    ∙ by (locations.find_last test placed)
   where
-    own : List PlacedValue
-    own = filter (is_from pair.reader) placed
+    own : List placed_spec.PlacedValue
+    own = filter (placed_spec.is_from pair.reader) placed
 
-    test : PlacedValue → Bool
-    test = lacks_by_answer pair.writer pair.reader n
+    test : placed_spec.PlacedValue → Bool
+    test = lost_answers.lacks_by_answer pair.writer pair.reader n
 
-    claimed : nat_lt n (greatest (map (base_said pair.writer pair.reader) (behind_last test own))) ≡ is_claimed_then pair.writer pair.reader placed n
+    claimed : nat_lt n (delivery.greatest (map (locations.base_said pair.writer pair.reader) (lost_answers.behind_last test own))) ≡ lost_answers.is_claimed_then pair.writer pair.reader placed n
     claimed =
-        below_claimed pair n (behind_last test own)
-        ∙ ap (list_any (claims pair.writer pair.reader n)) (behind_kept test (is_from pair.reader) (own_asker pair n) placed)
-        ∙ any_filter (claims pair.writer pair.reader n) (is_from pair.reader) (own_claimer pair n) (behind_last test placed)
+        below_claimed pair n (lost_answers.behind_last test own)
+        ∙ ap (list_any (received.claims pair.writer pair.reader n)) (behind_kept test (placed_spec.is_from pair.reader) (own_asker pair n) placed)
+        ∙ any_filter (received.claims pair.writer pair.reader n) (placed_spec.is_from pair.reader) (own_claimer pair n) (lost_answers.behind_last test placed)
 
-    there : (place : Option Location) → lacks_at (counted_among pair own) place ≡ lacks_there pair.writer pair.reader placed place
+    there : (place : Option Location) → last_asks.lacks_at (counted_answers.counted_among pair own) place ≡ missed.lacks_there pair.writer pair.reader placed place
     there None = refl
     there (Some place) = lacks_told pair placed place
 
-    by : (asking : Option PlacedValue) → option_any (excuses pair (counted_among pair own) (filter (is_from pair.writer) placed) n) (option_map (ask_of pair (behind_last test own)) asking) ≡ is_excused_by pair.writer pair.reader placed n asking
+    by : (asking : Option placed_spec.PlacedValue) → requests.option_any (last_asks.excuses pair (counted_answers.counted_among pair own) (filter (placed_spec.is_from pair.writer) placed) n) (option_map (last_asks.ask_of pair (lost_answers.behind_last test own)) asking) ≡ missed.is_excused_by pair.writer pair.reader placed n asking
     by None = refl
     by (Some asking) =
-        ap (λ b. b && lacks_at (counted_among pair own) (again_behind (location_of asking) pair.writer pair.reader n (filter (is_from pair.writer) placed))) claimed
-        ∙ ap (λ o. is_claimed_then pair.writer pair.reader placed n && lacks_at (counted_among pair own) o) (again_same (location_of asking) pair.writer pair.reader n placed)
-        ∙ ap (λ b. is_claimed_then pair.writer pair.reader placed n && b) (there (again_behind (location_of asking) pair.writer pair.reader n placed))
+        ap (λ b. b && last_asks.lacks_at (counted_answers.counted_among pair own) (missed.again_behind (locations.location_of asking) pair.writer pair.reader n (filter (placed_spec.is_from pair.writer) placed))) claimed
+        ∙ ap (λ o. lost_answers.is_claimed_then pair.writer pair.reader placed n && last_asks.lacks_at (counted_answers.counted_among pair own) o) (again_same (locations.location_of asking) pair.writer pair.reader n placed)
+        ∙ ap (λ b. lost_answers.is_claimed_then pair.writer pair.reader placed n && b) (there (missed.again_behind (locations.location_of asking) pair.writer pair.reader n placed))

@@ -7,12 +7,12 @@ use Rattle.std.specs.Option.{option_map}
 use Rattle.std.proofs.lemmas.Bool.{cases_lt}
 use Rattle.rtps_ids.specs.declared.identity.Guid.{Guid}
 use Rattle.rtps_discovery.specs.declared.matching.Pair.{Pair}
-use Rattle.rtps_audit.specs.Placed.{PlacedValue}
-use Rattle.rtps_coverage.specs.Counts.{count_in}
-use Rattle.rtps_coverage.specs.Stretches.{stretches_have}
-use Rattle.rtps_evidence.specs.Claimed.{AreLacking}
-use Rattle.rtps_evidence.specs.Locations.{claim_at}
-use Rattle.rtps_evidence.specs.Received.{AreReceived, first_claiming, gone_before, is_received, kept_by, least_in}
+use Rattle.rtps_audit.specs.Placed as placed
+use Rattle.rtps_coverage.specs.Counts as counts
+use Rattle.rtps_coverage.specs.Stretches as stretches
+use Rattle.rtps_evidence.specs.Claimed as claimed
+use Rattle.rtps_evidence.specs.Locations as locations
+use Rattle.rtps_evidence.specs.Received as received
 use Rattle.rtps_evidence.specs.declared.acknowledgement.Claim.{Claim}
 use Rattle.rtps_coverage.specs.declared.stretch.Stretch.{Stretch}
 use Rattle.rtps_evidence.specs.declared.not_received.NotReceived.{NotReceived}
@@ -42,10 +42,10 @@ none_in : (has : ℕ → Bool) (lo n : ℕ) → ((m : ℕ) → lo ≤ m → m < 
 none_in has lo zero none = refl
 none_in has lo (suc n) none = ap (λ b. cond b (Some lo) (find has (range_with_len (lo + 1) n))) (none lo (omega arith) (omega arith)) ∙ none_in has (lo + 1) n (λ m begun before. none m (omega arith) (omega arith))
 
-pub least_found : (has : ℕ → Bool) (lo hi k : ℕ) → lo ≤ k → k < hi → has k ≡ true → ((m : ℕ) → lo ≤ m → m < k → has m ≡ false) → least_in has lo hi ≡ Some k
+pub least_found : (has : ℕ → Bool) (lo hi k : ℕ) → lo ≤ k → k < hi → has k ≡ true → ((m : ℕ) → lo ≤ m → m < k → has m ≡ false) → received.least_in has lo hi ≡ Some k
 least_found has lo hi k low high is none = found_in has lo (hi - lo) k low (omega arith) is none
 
-pub least_none : (has : ℕ → Bool) (lo hi : ℕ) → ((m : ℕ) → lo ≤ m → m < hi → has m ≡ false) → least_in has lo hi ≡ None
+pub least_none : (has : ℕ → Bool) (lo hi : ℕ) → ((m : ℕ) → lo ≤ m → m < hi → has m ≡ false) → received.least_in has lo hi ≡ None
 least_none has lo hi none = none_in has lo (hi - lo) (λ m low high. none m low (omega arith))
 
 same_in : (has other : ℕ → Bool) (lo n : ℕ) → ((m : ℕ) → lo ≤ m → m < lo + n → has m ≡ other m) → find has (range_with_len lo n) ≡ find other (range_with_len lo n)
@@ -54,42 +54,42 @@ same_in has other lo (suc n) same =
     ap (λ b. cond b (Some lo) (find has (range_with_len (lo + 1) n))) (same lo (omega arith) (omega arith))
     ∙ ap (λ o. cond (other lo) (Some lo) o) (same_in has other (lo + 1) n (λ m low high. same m (omega arith) (omega arith)))
 
-pub least_same : (has other : ℕ → Bool) (lo hi : ℕ) → ((m : ℕ) → lo ≤ m → m < hi → has m ≡ other m) → least_in has lo hi ≡ least_in other lo hi
+pub least_same : (has other : ℕ → Bool) (lo hi : ℕ) → ((m : ℕ) → lo ≤ m → m < hi → has m ≡ other m) → received.least_in has lo hi ≡ received.least_in other lo hi
 least_same has other lo hi same = same_in has other lo (hi - lo) (λ m low high. same m low (omega arith))
 
 -- ---- what keeps it
 
-pub kept_unclaimed : (writer reader : Guid) (n : ℕ) (acts : List PlacedValue) (claim : Option PlacedValue) → None ≡ option_map (claim_at writer reader) claim
-    → ◌≡◌ {A = NotReceived} (record { number = n; gone = None; acknowledged = None }) (kept_by writer reader n acts claim)
+pub kept_unclaimed : (writer reader : Guid) (n : ℕ) (acts : List placed.PlacedValue) (claim : Option placed.PlacedValue) → None ≡ option_map (locations.claim_at writer reader) claim
+    → ◌≡◌ {A = NotReceived} (record { number = n; gone = None; acknowledged = None }) (received.kept_by writer reader n acts claim)
 kept_unclaimed writer reader n acts claim h = grind (arith, nat_tests)
 
-pub kept_claimed : (writer reader : Guid) (n : ℕ) (acts : List PlacedValue) (claim : Option PlacedValue) (found : Claim) (gone : Option Teller) → Some found ≡ option_map (claim_at writer reader) claim
-    → gone ≡ gone_before writer reader n found.place.datagram acts → ◌≡◌ {A = NotReceived} (record { number = n; gone = gone; acknowledged = Some found.place }) (kept_by writer reader n acts claim)
+pub kept_claimed : (writer reader : Guid) (n : ℕ) (acts : List placed.PlacedValue) (claim : Option placed.PlacedValue) (found : Claim) (gone : Option Teller) → Some found ≡ option_map (locations.claim_at writer reader) claim
+    → gone ≡ received.gone_before writer reader n found.place.datagram acts → ◌≡◌ {A = NotReceived} (record { number = n; gone = gone; acknowledged = Some found.place }) (received.kept_by writer reader n acts claim)
 kept_claimed writer reader n acts claim found gone h h2 = grind (arith, nat_tests)
 
 -- ---- counted, and the least of the others
 
 -- the received numbers are those that are not lacking
-count_received : (from last count others : ℕ) (pair : Pair) (placed : List PlacedValue) (items : List Stretch) → AreLacking from last pair placed items
-    → others ≡ count_in (stretches_have items) from (last + 1) → count ≡ last + 1 - from - others → count ≡ count_in (is_received pair.writer pair.reader placed) from (last + 1)
+count_received : (from last count others : ℕ) (pair : Pair) (placed : List placed.PlacedValue) (items : List Stretch) → claimed.AreLacking from last pair placed items
+    → others ≡ counts.count_in (stretches.stretches_have items) from (last + 1) → count ≡ last + 1 - from - others → count ≡ counts.count_in (received.is_received pair.writer pair.reader placed) from (last + 1)
 count_received from last count others pair placed items are counted rest = grind (arith, nat_tests, common_steps, count_others, count_same)
 
-pub some_not_received : (from last least count others : ℕ) (pair : Pair) (placed : List PlacedValue) (items lent : List Stretch) (found : NotReceived) → lent ≡ items
-    → AreLacking from last pair placed items → from ≤ least → stretches_have lent least ≡ true → ((n : ℕ) → from ≤ n → n < least → stretches_have lent n ≡ false)
-    → others ≡ count_in (stretches_have items) from (last + 1) → count ≡ last + 1 - from - others → least < last + 1
-    → found ≡ kept_by pair.writer pair.reader least placed (first_claiming pair.writer pair.reader least placed)
-    → AreReceived from last pair.writer pair.reader placed (record { count = count; not_received = Some found })
+pub some_not_received : (from last least count others : ℕ) (pair : Pair) (placed : List placed.PlacedValue) (items lent : List Stretch) (found : NotReceived) → lent ≡ items
+    → claimed.AreLacking from last pair placed items → from ≤ least → stretches.stretches_have lent least ≡ true → ((n : ℕ) → from ≤ n → n < least → stretches.stretches_have lent n ≡ false)
+    → others ≡ counts.count_in (stretches.stretches_have items) from (last + 1) → count ≡ last + 1 - from - others → least < last + 1
+    → found ≡ received.kept_by pair.writer pair.reader least placed (received.first_claiming pair.writer pair.reader least placed)
+    → received.AreReceived from last pair.writer pair.reader placed (record { count = count; not_received = Some found })
 some_not_received from last least count others pair placed items lent found same are low inside below counted rest high kept = record {
   count = count_received from last count others pair placed items are counted rest;
   not_received =
       ap Some kept
-      ∙ sym (ap (option_map (λ n. kept_by pair.writer pair.reader n placed (first_claiming pair.writer pair.reader n placed)))
-      (least_found (λ n. not (is_received pair.writer pair.reader placed n)) from (last + 1) least low high
-      (sym (are least low (omega arith)) ∙ sym (ap (λ l. stretches_have l least) same) ∙ inside)
-      (λ m begun before. sym (are m begun (omega arith)) ∙ sym (ap (λ l. stretches_have l m) same) ∙ below m begun before)));
+      ∙ sym (ap (option_map (λ n. received.kept_by pair.writer pair.reader n placed (received.first_claiming pair.writer pair.reader n placed)))
+      (least_found (λ n. not (received.is_received pair.writer pair.reader placed n)) from (last + 1) least low high
+      (sym (are least low (omega arith)) ∙ sym (ap (λ l. stretches.stretches_have l least) same) ∙ inside)
+      (λ m begun before. sym (are m begun (omega arith)) ∙ sym (ap (λ l. stretches.stretches_have l m) same) ∙ below m begun before)));
 }
 
-pub all_received : (from last least count others : ℕ) (pair : Pair) (placed : List PlacedValue) (items lent : List Stretch) → lent ≡ items
-    → AreLacking from last pair placed items → ((n : ℕ) → from ≤ n → n < least → stretches_have lent n ≡ false)
-    → others ≡ count_in (stretches_have items) from (last + 1) → count ≡ last + 1 - from - others → last + 1 ≤ least → AreReceived from last pair.writer pair.reader placed (record { count = count; not_received = None })
+pub all_received : (from last least count others : ℕ) (pair : Pair) (placed : List placed.PlacedValue) (items lent : List Stretch) → lent ≡ items
+    → claimed.AreLacking from last pair placed items → ((n : ℕ) → from ≤ n → n < least → stretches.stretches_have lent n ≡ false)
+    → others ≡ counts.count_in (stretches.stretches_have items) from (last + 1) → count ≡ last + 1 - from - others → last + 1 ≤ least → received.AreReceived from last pair.writer pair.reader placed (record { count = count; not_received = None })
 all_received from last least count others pair placed items lent same are below counted rest high = grind (arith, nat_tests, common_steps, count_received, least_none)

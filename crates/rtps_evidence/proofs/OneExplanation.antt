@@ -6,15 +6,15 @@ use Rattle.std.specs.Prelude.{All}
 use Rattle.std.specs.List.{range_with_len}
 use Rattle.std.proofs.lemmas.List.{length-map}
 use Rattle.std.proofs.lemmas.List.Elements.{All-head, All-tail}
-use Rattle.rtps_receiver.specs.Values.{ActValue}
-use Rattle.rtps_discovery.specs.Directory.{DirectoryValue, Entries, settled_at}
+use Rattle.rtps_receiver.specs.Values as values
+use Rattle.rtps_discovery.specs.Directory as directory
 use Rattle.rtps_discovery.specs.declared.matching.Pair.{Pair}
-use Rattle.rtps_audit.specs.Intake.{Intake, acts_together}
-use Rattle.rtps_audit.specs.Laws.{HasNoTwoVerdicts, HasOneReport}
+use Rattle.rtps_audit.specs.Intake as intake_spec
+use Rattle.rtps_audit.specs.Laws as laws
 use Rattle.rtps_audit.specs.declared.report.Row.{Row}
-use Rattle.rtps_evidence.specs.Evidence.{IsBeside, IsEvidenceBy, IsShown}
-use Rattle.rtps_evidence.specs.Explanation.{ExplanationValue, HasOneExplanation, IsNamed, PairsHaveOneExplanation, evidence_value, explanation_value, topic_of, type_of}
-use Rattle.rtps_evidence.specs.OtherSide.{Beside}
+use Rattle.rtps_evidence.specs.Evidence as evidence
+use Rattle.rtps_evidence.specs.Explanation as explanation
+use Rattle.rtps_evidence.specs.OtherSide as other_side
 use Rattle.rtps_evidence.specs.declared.explanation.Explanation.{Explanation}
 use Rattle.rtps_evidence.specs.declared.evidence.Evidence.{Evidence}
 use Rattle.rtps_evidence.specs.declared.in_span.InSpan.{InSpan}
@@ -23,33 +23,33 @@ use Rattle.rtps_evidence.specs.declared.span.Span.{Span}
 use Rattle.rtps_evidence.proofs.LostLemmas.{one_losses}
 use Rattle.rtps_evidence.proofs.OneSpan.{HasOneMap, one_extent}
 
-one_shown : (there : ℕ → Bool) (from : ℕ) (since : Option Location) (pair : Pair) (recording : List (List ActValue)) (one other : Evidence) → one.verdict ≡ other.verdict → one.in_span ≡ other.in_span
-    → IsShown there from since pair recording one → IsShown there from since pair recording other → evidence_value one ≡ evidence_value other
+one_shown : (there : ℕ → Bool) (from : ℕ) (since : Option Location) (pair : Pair) (recording : List (List values.ActValue)) (one other : Evidence) → one.verdict ≡ other.verdict → one.in_span ≡ other.in_span
+    → evidence.IsShown there from since pair recording one → evidence.IsShown there from since pair recording other → explanation.evidence_value one ≡ explanation.evidence_value other
 one_shown there from since pair recording one other same beside is also = grind (arith, nat_tests)
 
-one_beside : (spans : Bool) (beside : Beside) (span : Span) (pair : Pair) (all recording : List (List ActValue)) (one other : Option InSpan) → IsBeside spans beside span pair all recording one → IsBeside spans beside span pair all recording other → one ≡ other
+one_beside : (spans : Bool) (beside : other_side.Beside) (span : Span) (pair : Pair) (all recording : List (List values.ActValue)) (one other : Option InSpan) → evidence.IsBeside spans beside span pair all recording one → evidence.IsBeside spans beside span pair all recording other → one ≡ other
 one_beside spans beside span pair all recording one other h h2 = grind (arith, nat_tests)
 
-one_evidence : HasOneMap → HasNoTwoVerdicts → (spans : Bool) (from : ℕ) (beside : Beside) (pair : Pair) (intake : Intake) (one other : Evidence) → IsEvidenceBy spans from beside pair intake one → IsEvidenceBy spans from beside pair intake other → evidence_value one ≡ evidence_value other
+one_evidence : HasOneMap → laws.HasNoTwoVerdicts → (spans : Bool) (from : ℕ) (beside : other_side.Beside) (pair : Pair) (intake : intake_spec.Intake) (one other : Evidence) → evidence.IsEvidenceBy spans from beside pair intake one → evidence.IsEvidenceBy spans from beside pair intake other → explanation.evidence_value one ≡ explanation.evidence_value other
 one_evidence unique no_two spans from beside pair intake one other is also = grind (arith, nat_tests, common_steps, one_extent, one_shown, one_beside)
 
-value_is : (one other : ExplanationValue) → one.pair ≡ other.pair → one.topic ≡ other.topic → one.type_name ≡ other.type_name → one.evidence ≡ other.evidence → one.place ≡ other.place → one ≡ other
+value_is : (one other : explanation.ExplanationValue) → one.pair ≡ other.pair → one.topic ≡ other.topic → one.type_name ≡ other.type_name → one.evidence ≡ other.evidence → one.place ≡ other.place → one ≡ other
 value_is one other pair topic type_name evidence place = grind (arith, nat_tests)
 
-one_row : HasOneMap → HasNoTwoVerdicts → (spans : Bool) (from : ℕ) (beside : Beside) (intake : Intake) (entries : Entries) (one other : Explanation) → one.pair ≡ other.pair → one.place ≡ other.place
-    → IsNamed entries one → IsNamed entries other → IsEvidenceBy spans from beside one.pair intake one.evidence → IsEvidenceBy spans from beside other.pair intake other.evidence
-    → explanation_value one ≡ explanation_value other
+one_row : HasOneMap → laws.HasNoTwoVerdicts → (spans : Bool) (from : ℕ) (beside : other_side.Beside) (intake : intake_spec.Intake) (entries : directory.Entries) (one other : Explanation) → one.pair ≡ other.pair → one.place ≡ other.place
+    → explanation.IsNamed entries one → explanation.IsNamed entries other → evidence.IsEvidenceBy spans from beside one.pair intake one.evidence → evidence.IsEvidenceBy spans from beside other.pair intake other.evidence
+    → explanation.explanation_value one ≡ explanation.explanation_value other
 one_row unique no_two spans from beside intake entries one other pair place named called shown also =
-    let topic = named.topic ∙ ap (λ (p : Pair). topic_of (settled_at entries p.writer)) pair ∙ sym called.topic in
-    let type_name = named.type_name ∙ ap (λ (p : Pair). type_of (settled_at entries p.writer)) pair ∙ sym called.type_name in
-    let moved = subst (λ (p : Pair). IsEvidenceBy spans from beside p intake other.evidence) (sym pair) also in
-    value_is (explanation_value one) (explanation_value other) pair topic type_name (one_evidence unique no_two spans from beside one.pair intake one.evidence other.evidence shown moved) place
+    let topic = named.topic ∙ ap (λ (p : Pair). explanation.topic_of (directory.settled_at entries p.writer)) pair ∙ sym called.topic in
+    let type_name = named.type_name ∙ ap (λ (p : Pair). explanation.type_of (directory.settled_at entries p.writer)) pair ∙ sym called.type_name in
+    let moved = subst (λ (p : Pair). evidence.IsEvidenceBy spans from beside p intake other.evidence) (sym pair) also in
+    value_is (explanation.explanation_value one) (explanation.explanation_value other) pair topic type_name (one_evidence unique no_two spans from beside one.pair intake one.evidence other.evidence shown moved) place
 
-one_list : HasOneMap → HasNoTwoVerdicts → (spans : Bool) (from : ℕ) (beside : Beside) (intake : Intake) (entries : Entries) (rows others : List Explanation) → map (λ (row : Explanation). row.pair) rows ≡ map (λ (row : Explanation). row.pair) others
+one_list : HasOneMap → laws.HasNoTwoVerdicts → (spans : Bool) (from : ℕ) (beside : other_side.Beside) (intake : intake_spec.Intake) (entries : directory.Entries) (rows others : List Explanation) → map (λ (row : Explanation). row.pair) rows ≡ map (λ (row : Explanation). row.pair) others
     → map (λ (row : Explanation). row.place) rows ≡ map (λ (row : Explanation). row.place) others
-    → All (IsNamed entries) rows → All (IsNamed entries) others
-    → All (λ row. IsEvidenceBy spans from beside row.pair intake row.evidence) rows → All (λ row. IsEvidenceBy spans from beside row.pair intake row.evidence) others
-    → map explanation_value rows ≡ map explanation_value others
+    → All (explanation.IsNamed entries) rows → All (explanation.IsNamed entries) others
+    → All (λ row. evidence.IsEvidenceBy spans from beside row.pair intake row.evidence) rows → All (λ row. evidence.IsEvidenceBy spans from beside row.pair intake row.evidence) others
+    → map explanation.explanation_value rows ≡ map explanation.explanation_value others
 one_list unique no_two spans from beside intake entries [] [] same placed named called shown also = refl
 one_list unique no_two spans from beside intake entries [] (other ∷ others) same placed named called shown also = cc
 one_list unique no_two spans from beside intake entries (row ∷ rows) [] same placed named called shown also = cc
@@ -58,12 +58,12 @@ one_list unique no_two spans from beside intake entries (row ∷ rows) (other �
     let tail : map (λ (r : Explanation). r.pair) rows ≡ map (λ (r : Explanation). r.pair) others = cc in
     let place : row.place ≡ other.place = cc in
     let places : map (λ (r : Explanation). r.place) rows ≡ map (λ (r : Explanation). r.place) others = cc in
-    ap (λ first. first ∷ map explanation_value rows)
-    (one_row unique no_two spans from beside intake entries row other head place (All-head (IsNamed entries) row rows named) (All-head (IsNamed entries) other others called)
-    (All-head (λ (r : Explanation). IsEvidenceBy spans from beside r.pair intake r.evidence) row rows shown) (All-head (λ (r : Explanation). IsEvidenceBy spans from beside r.pair intake r.evidence) other others also))
-    ∙ ap (λ rest. explanation_value other ∷ rest)
-    (one_list unique no_two spans from beside intake entries rows others tail places (All-tail (IsNamed entries) row rows named) (All-tail (IsNamed entries) other others called)
-    (All-tail (λ (r : Explanation). IsEvidenceBy spans from beside r.pair intake r.evidence) row rows shown) (All-tail (λ (r : Explanation). IsEvidenceBy spans from beside r.pair intake r.evidence) other others also))
+    ap (λ first. first ∷ map explanation.explanation_value rows)
+    (one_row unique no_two spans from beside intake entries row other head place (All-head (explanation.IsNamed entries) row rows named) (All-head (explanation.IsNamed entries) other others called)
+    (All-head (λ (r : Explanation). evidence.IsEvidenceBy spans from beside r.pair intake r.evidence) row rows shown) (All-head (λ (r : Explanation). evidence.IsEvidenceBy spans from beside r.pair intake r.evidence) other others also))
+    ∙ ap (λ rest. explanation.explanation_value other ∷ rest)
+    (one_list unique no_two spans from beside intake entries rows others tail places (All-tail (explanation.IsNamed entries) row rows named) (All-tail (explanation.IsNamed entries) other others called)
+    (All-tail (λ (r : Explanation). evidence.IsEvidenceBy spans from beside r.pair intake r.evidence) row rows shown) (All-tail (λ (r : Explanation). evidence.IsEvidenceBy spans from beside r.pair intake r.evidence) other others also))
 
 -- as many rows have the same places
 same_places : (rows others : List Explanation) → map (λ (row : Explanation). row.pair) rows ≡ map (λ (row : Explanation). row.pair) others
@@ -73,18 +73,18 @@ same_places rows others same placed also =
     let many : length rows ≡ length others = sym (length-map rows (λ (row : Explanation). row.pair)) ∙ ap length same ∙ length-map others (λ (row : Explanation). row.pair) in
     placed ∙ ap (range_with_len 0) many ∙ sym also
 
-pub one_explanation : HasOneReport → HasNoTwoVerdicts → HasOneMap → HasOneExplanation
+pub one_explanation : laws.HasOneReport → laws.HasNoTwoVerdicts → HasOneMap → explanation.HasOneExplanation
 one_explanation one_report no_two unique spans from beside intake one other is also =
     let reports = one_report from intake is.report also.report is.reports also.reports in
-    let same : is.directory ≡ also.directory = unique (acts_together intake.announcing) is.directory also.directory is.is_map also.is_map in
+    let same : is.directory ≡ also.directory = unique (intake_spec.acts_together intake.announcing) is.directory also.directory is.is_map also.is_map in
     let pairs = is.pairs ∙ ap (map (λ (row : Row). row.pair)) reports.0 ∙ sym also.pairs in
-    let called = subst (λ (d : DirectoryValue). All (IsNamed d.endpoints) other.rows.items) (sym same) also.named in
+    let called = subst (λ (d : directory.DirectoryValue). All (explanation.IsNamed d.endpoints) other.rows.items) (sym same) also.named in
     (one_list unique no_two spans from beside intake is.directory.endpoints one.rows.items other.rows.items pairs (same_places one.rows.items other.rows.items pairs is.places also.places) is.named called is.shown also.shown, is.counts ∙ reports.1 ∙ sym also.counts)
 
-pub one_pairs : HasNoTwoVerdicts → HasOneMap → PairsHaveOneExplanation
+pub one_pairs : laws.HasNoTwoVerdicts → HasOneMap → explanation.PairsHaveOneExplanation
 one_pairs no_two unique spans from beside intake pairs one other lost losses is also =
-    let same : is.directory ≡ also.directory = unique (acts_together intake.announcing) is.directory also.directory is.is_map also.is_map in
-    let called = subst (λ (d : DirectoryValue). All (IsNamed d.endpoints) other) (sym same) also.named in
+    let same : is.directory ≡ also.directory = unique (intake_spec.acts_together intake.announcing) is.directory also.directory is.is_map also.is_map in
+    let called = subst (λ (d : directory.DirectoryValue). All (explanation.IsNamed d.endpoints) other) (sym same) also.named in
     let of_pairs = is.of_pairs ∙ sym also.of_pairs in (
       one_list unique no_two spans from beside intake is.directory.endpoints one other of_pairs (same_places one other of_pairs is.places also.places) is.named called is.shown also.shown,
       one_losses unique spans from beside intake pairs lost losses is.losses also.losses,

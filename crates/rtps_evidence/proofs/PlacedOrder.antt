@@ -4,30 +4,30 @@ use Rattle.std.proofs.Common.{◌≡◌, ℕ, ◌+◌, ◌≤◌, Bool, true, fa
 use Rattle.std.specs.Prelude.{Contains}
 use Rattle.std.specs.List.{find, list_any}
 use Rattle.std.proofs.lemmas.List.Elements.{Contains-append_cases, Contains-append_left, Contains-append_right, Contains-push}
-use Rattle.rtps_receiver.specs.Values.{ActValue}
-use Rattle.rtps_audit.specs.Placed.{PlacedValue, placed_at, placed_behind}
+use Rattle.rtps_receiver.specs.Values as values
+use Rattle.rtps_audit.specs.Placed as placed
 
 -- each stands in no earlier datagram than the one before it, and the first in none below `low`
-abbrev pub AreOrdered : ℕ → List PlacedValue → Type 0
+abbrev pub AreOrdered : ℕ → List placed.PlacedValue → Type 0
 AreOrdered low [] = Unit {0}
 AreOrdered low (x ∷ xs) = (low ≤ x.datagram) × AreOrdered x.datagram xs
 
-later : (low high : ℕ) (xs : List PlacedValue) → low ≤ high → AreOrdered high xs → AreOrdered low xs
+later : (low high : ℕ) (xs : List placed.PlacedValue) → low ≤ high → AreOrdered high xs → AreOrdered low xs
 later low high [] le ordered = tt
 later low high (x ∷ xs) le (first, rest) = (omega arith, rest)
 
-at_once : (datagram : ℕ) (acts : List ActValue) (xs : List PlacedValue) → AreOrdered datagram xs → AreOrdered datagram (placed_at datagram acts ++ xs)
+at_once : (datagram : ℕ) (acts : List values.ActValue) (xs : List placed.PlacedValue) → AreOrdered datagram xs → AreOrdered datagram (placed.placed_at datagram acts ++ xs)
 at_once datagram [] xs ordered = ordered
 at_once datagram (act ∷ acts) xs ordered = (omega arith, at_once datagram acts xs ordered)
 
-pub placed_ordered : (before : ℕ) (recording : List (List ActValue)) → AreOrdered (before + 1) (placed_behind before recording)
+pub placed_ordered : (before : ℕ) (recording : List (List values.ActValue)) → AreOrdered (before + 1) (placed.placed_behind before recording)
 placed_ordered before [] = tt
 placed_ordered before (datagram ∷ datagrams) =
-    at_once (before + 1) datagram (placed_behind (before + 1) datagrams)
-    (later (before + 1) (before + 1 + 1) (placed_behind (before + 1) datagrams) (omega arith) (placed_ordered (before + 1) datagrams))
+    at_once (before + 1) datagram (placed.placed_behind (before + 1) datagrams)
+    (later (before + 1) (before + 1 + 1) (placed.placed_behind (before + 1) datagrams) (omega arith) (placed_ordered (before + 1) datagrams))
 
 -- so do those that are kept of them
-pub kept_ordered : (keeps : PlacedValue → Bool) (low : ℕ) (xs : List PlacedValue) → AreOrdered low xs → AreOrdered low (filter keeps xs)
+pub kept_ordered : (keeps : placed.PlacedValue → Bool) (low : ℕ) (xs : List placed.PlacedValue) → AreOrdered low xs → AreOrdered low (filter keeps xs)
 kept_ordered keeps low [] ordered = tt
 kept_ordered keeps low (x ∷ xs) (first, rest) = by (kept_ordered keeps x.datagram xs rest) (keeps x)
   where
@@ -39,23 +39,23 @@ only_one : {X : Type 0} (b x : X) → Contains (b ∷ []) x → b ≡ x
 only_one b x h = grind (arith, nat_tests)
 
 -- each stands in no datagram below it
-pub none_lower : (low : ℕ) (xs : List PlacedValue) (x : PlacedValue) → AreOrdered low xs → Contains xs x → low ≤ x.datagram
+pub none_lower : (low : ℕ) (xs : List placed.PlacedValue) (x : placed.PlacedValue) → AreOrdered low xs → Contains xs x → low ≤ x.datagram
 none_lower low [] x ordered (k, lt, e) = absurd (omega arith)
 none_lower low (y ∷ ys) x (first, rest) among =
     elim (Contains-append_cases (y ∷ []) ys x among) [
-      | inl here ↦ let same : y.datagram ≡ x.datagram = ap (λ (at : PlacedValue). at.datagram) (only_one y x here) in omega arith
+      | inl here ↦ let same : y.datagram ≡ x.datagram = ap (λ (at : placed.PlacedValue). at.datagram) (only_one y x here) in omega arith
       | inr there ↦ let past = none_lower y.datagram ys x rest there in omega arith
     ]
 
 -- the first that passes stands in no later datagram than any that does
-pub first_is_first : (test : PlacedValue → Bool) (low : ℕ) (xs : List PlacedValue) (x c : PlacedValue) → AreOrdered low xs → find test xs ≡ Some c → Contains xs x → test x ≡ true → c.datagram ≤ x.datagram
+pub first_is_first : (test : placed.PlacedValue → Bool) (low : ℕ) (xs : List placed.PlacedValue) (x c : placed.PlacedValue) → AreOrdered low xs → find test xs ≡ Some c → Contains xs x → test x ≡ true → c.datagram ≤ x.datagram
 first_is_first test low [] x c ordered found (k, lt, e) is = absurd (omega arith)
 first_is_first test low (y ∷ ys) x c (first, rest) found among is = by (λ found there. first_is_first test y.datagram ys x c rest found there is) (test y) refl found
   where
     by : (find test ys ≡ Some c → Contains ys x → c.datagram ≤ x.datagram) → (b : Bool) → test y ≡ b → cond b (Some y) (find test ys) ≡ Some c → c.datagram ≤ x.datagram
     by onward true passes found =
         let same : y ≡ c = (let e : Some y ≡ Some c = found in cc) in
-        let at : y.datagram ≡ c.datagram = ap (λ (at : PlacedValue). at.datagram) same in
+        let at : y.datagram ≡ c.datagram = ap (λ (at : placed.PlacedValue). at.datagram) same in
         let past = none_lower y.datagram (y ∷ ys) x (omega arith, rest) among in
         omega arith
     by onward false passes found =

@@ -4,13 +4,13 @@ use Rattle.std.proofs.lemmas.Bool.Decides.{nat_tests}
 use Rattle.std.proofs.Common.{◌≡◌, ◌∙◌, ◌+◌, ◌-◌, ℕ, Bool, ◌≤◌, List, filter, max, not, refl, ap, arith}
 use Rattle.rtps_ids.specs.declared.identity.Guid.{Guid}
 use Rattle.rtps_discovery.specs.declared.matching.Pair.{Pair}
-use Rattle.rtps_audit.specs.Placed.{PlacedValue, is_from}
+use Rattle.rtps_audit.specs.Placed as placed
 use Rattle.rtps_audit.proofs.Offered.{speaker_is_origin}
-use Rattle.rtps_coverage.specs.Counts.{count_in}
-use Rattle.rtps_coverage.specs.Stretches.{stretches_have}
-use Rattle.rtps_evidence.specs.Amount.{is_sent}
-use Rattle.rtps_evidence.specs.FirstNumbers.{first_ten, kept}
-use Rattle.rtps_evidence.specs.Recorded.{AreRecordedIn, IsArrivedAmong, greatest_sent}
+use Rattle.rtps_coverage.specs.Counts as counts
+use Rattle.rtps_coverage.specs.Stretches as stretches_spec
+use Rattle.rtps_evidence.specs.Amount as amount
+use Rattle.rtps_evidence.specs.FirstNumbers as first_numbers
+use Rattle.rtps_evidence.specs.Recorded as recorded
 use Rattle.rtps_coverage.specs.declared.stretch.Stretch.{Stretch}
 use Rattle.rtps_evidence.specs.declared.recorded.ArrivedNumbers.{ArrivedNumbers}
 use Rattle.rtps_evidence.specs.declared.recorded.Recorded.{Recorded}
@@ -20,26 +20,26 @@ use Rattle.rtps_evidence.proofs.FirstNumbersLemmas.{first_same}
 use Rattle.rtps_evidence.proofs.OriginLemmas.{sent_same}
 use Rattle.rtps_evidence.proofs.SpanLemmas.{greatest_filter}
 
-greatest_same : (writer : Guid) (acts : List PlacedValue) → greatest_sent writer (filter (is_from writer) acts) ≡ greatest_sent writer acts
+greatest_same : (writer : Guid) (acts : List placed.PlacedValue) → recorded.greatest_sent writer (filter (placed.is_from writer) acts) ≡ recorded.greatest_sent writer acts
 greatest_same writer acts = grind (arith, nat_tests, common_steps, greatest_filter, speaker_is_origin)
 
 -- the numbers end where the first one stands behind them all
-count_ends : (has : ℕ → Bool) (from behind : ℕ) → count_in has from (max behind from) ≡ count_in has from behind
+count_ends : (has : ℕ → Bool) (from behind : ℕ) → counts.count_in has from (max behind from) ≡ counts.count_in has from behind
 count_ends has from behind = grind (arith, nat_tests)
 
-greatest_is : (writer : Guid) (acts own : List PlacedValue) (behind : ℕ) → own ≡ filter (is_from writer) acts → behind ≡ greatest_sent writer own + 1 → behind ≡ greatest_sent writer acts + 1
-greatest_is writer acts own behind own_is is = is ∙ ap (λ l. greatest_sent writer l + 1) own_is ∙ ap (λ n. n + 1) (greatest_same writer acts)
+greatest_is : (writer : Guid) (acts own : List placed.PlacedValue) (behind : ℕ) → own ≡ filter (placed.is_from writer) acts → behind ≡ recorded.greatest_sent writer own + 1 → behind ≡ recorded.greatest_sent writer acts + 1
+greatest_is writer acts own behind own_is is = is ∙ ap (λ l. recorded.greatest_sent writer l + 1) own_is ∙ ap (λ n. n + 1) (greatest_same writer acts)
 
 -- stretches counted up to the greatest number that the writer sent
-pub counted_in : (writer : Guid) (acts own : List PlacedValue) (stretches : List Stretch) (has : ℕ → Bool) (first from behind count : ℕ) → own ≡ filter (is_from writer) acts → from ≡ first → behind ≡ greatest_sent writer own + 1
-    → ((n : ℕ) → stretches_have stretches n ≡ has n) → count ≡ count_in (stretches_have stretches) from (max behind from) → count ≡ count_in has first (greatest_sent writer acts + 1)
+pub counted_in : (writer : Guid) (acts own : List placed.PlacedValue) (stretches : List Stretch) (has : ℕ → Bool) (first from behind count : ℕ) → own ≡ filter (placed.is_from writer) acts → from ≡ first → behind ≡ recorded.greatest_sent writer own + 1
+    → ((n : ℕ) → stretches_spec.stretches_have stretches n ≡ has n) → count ≡ counts.count_in (stretches_spec.stretches_have stretches) from (max behind from) → count ≡ counts.count_in has first (recorded.greatest_sent writer acts + 1)
 counted_in writer acts own stretches has first from behind count own_is from_is behind_is same counted = grind (arith, nat_tests, common_steps, count_ends, count_same, greatest_is)
 
 -- what is counted among the writer's acts
-pub recorded_in : (span : Span) (pair : Pair) (acts own : List PlacedValue) (sent : List Stretch) (from behind : ℕ) (found : Recorded)
-    → own ≡ filter (is_from pair.writer) acts → from ≡ span.from → behind ≡ greatest_sent pair.writer own + 1
-    → ((n : ℕ) → stretches_have sent n ≡ is_sent pair.writer pair.reader own n)
-    → found.numbers ≡ behind - from → found.recorded ≡ count_in (stretches_have sent) from (max behind from) → AreRecordedIn span pair acts found
+pub recorded_in : (span : Span) (pair : Pair) (acts own : List placed.PlacedValue) (sent : List Stretch) (from behind : ℕ) (found : Recorded)
+    → own ≡ filter (placed.is_from pair.writer) acts → from ≡ span.from → behind ≡ recorded.greatest_sent pair.writer own + 1
+    → ((n : ℕ) → stretches_spec.stretches_have sent n ≡ amount.is_sent pair.writer pair.reader own n)
+    → found.numbers ≡ behind - from → found.recorded ≡ counts.count_in (stretches_spec.stretches_have sent) from (max behind from) → recorded.AreRecordedIn span pair acts found
 recorded_in span pair acts own sent from behind found own_is from_is behind_is sent_is numbers recorded = grind (arith, nat_tests, common_steps, greatest_is, counted_in, sent_same)
 
 -- the greatest number that the writer sent, or the one before the first
@@ -47,28 +47,28 @@ ends_behind : (greatest from last : ℕ) → 1 ≤ from → last ≡ max greates
 ends_behind greatest from last low is = omega arith
 
 -- the first ones end where the first number stands behind them all
-first_ends : (has : ℕ → Bool) (from behind : ℕ) → first_ten has from (max behind from) ≡ first_ten has from behind
+first_ends : (has : ℕ → Bool) (from behind : ℕ) → first_numbers.first_ten has from (max behind from) ≡ first_numbers.first_ten has from behind
 first_ends has from behind = grind (arith, nat_tests)
 
 -- of the numbers that are there, what is counted and named up to the greatest that the writer sent
-pub arrived_among : (writer : Guid) (acts own : List PlacedValue) (stretches : List Stretch) (there : ℕ → Bool) (first from last : ℕ)
-    (found : ArrivedNumbers) → own ≡ filter (is_from writer) acts → from ≡ first → 1 ≤ from
-    → last ≡ max (greatest_sent writer own) (from - 1) → ((n : ℕ) → stretches_have stretches n ≡ there n)
-    → found.arrived ≡ count_in (stretches_have stretches) from (last + 1)
-    → found.lacking ≡ kept (first_ten (λ n. not (stretches_have stretches n)) from (last + 1))
-    → IsArrivedAmong there first (greatest_sent writer acts + 1) found
+pub arrived_among : (writer : Guid) (acts own : List placed.PlacedValue) (stretches : List Stretch) (there : ℕ → Bool) (first from last : ℕ)
+    (found : ArrivedNumbers) → own ≡ filter (placed.is_from writer) acts → from ≡ first → 1 ≤ from
+    → last ≡ max (recorded.greatest_sent writer own) (from - 1) → ((n : ℕ) → stretches_spec.stretches_have stretches n ≡ there n)
+    → found.arrived ≡ counts.count_in (stretches_spec.stretches_have stretches) from (last + 1)
+    → found.lacking ≡ first_numbers.kept (first_numbers.first_ten (λ n. not (stretches_spec.stretches_have stretches n)) from (last + 1))
+    → recorded.IsArrivedAmong there first (recorded.greatest_sent writer acts + 1) found
 arrived_among writer acts own stretches there first from last found own_is from_is low last_is same arrived lacking =
-    let behind = greatest_sent writer own + 1 in
-    let end : last + 1 ≡ max behind from = ends_behind (greatest_sent writer own) from last low last_is in
+    let behind = recorded.greatest_sent writer own + 1 in
+    let end : last + 1 ≡ max behind from = ends_behind (recorded.greatest_sent writer own) from last low last_is in
     let others : ℕ → Bool = λ n. not (there n) in
     record {
       arrived = counted_in writer acts own stretches there first from behind found.arrived own_is from_is refl same
-          (arrived ∙ ap (count_in (stretches_have stretches) from) end);
+          (arrived ∙ ap (counts.count_in (stretches_spec.stretches_have stretches) from) end);
       lacking = lacking
-          ∙ ap kept (
-          ap (first_ten (λ n. not (stretches_have stretches n)) from) end
-          ∙ first_same (λ n. not (stretches_have stretches n)) others from (max behind from) (λ n a b. ap not (same n))
-          ∙ first_ends others from behind ∙ ap (λ n. first_ten others n behind) from_is
-          ∙ ap (first_ten others first) (greatest_is writer acts own behind own_is refl)
+          ∙ ap first_numbers.kept (
+          ap (first_numbers.first_ten (λ n. not (stretches_spec.stretches_have stretches n)) from) end
+          ∙ first_same (λ n. not (stretches_spec.stretches_have stretches n)) others from (max behind from) (λ n a b. ap not (same n))
+          ∙ first_ends others from behind ∙ ap (λ n. first_numbers.first_ten others n behind) from_is
+          ∙ ap (first_numbers.first_ten others first) (greatest_is writer acts own behind own_is refl)
           );
     }

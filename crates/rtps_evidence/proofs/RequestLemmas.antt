@@ -11,12 +11,11 @@ use Rattle.std.proofs.lemmas.List.{map-append, take_more}
 use Rattle.std.proofs.lemmas.List.Elements.{All-head, All-tail}
 use Rattle.std.proofs.lemmas.List.Folds.{list_any-append}
 use Rattle.rtps_discovery.specs.declared.matching.Pair.{Pair}
-use Rattle.rtps_audit.specs.Placed.{PlacedValue, placed_value}
+use Rattle.rtps_audit.specs.Placed as placed
 use Rattle.rtps_audit.specs.declared.placed.Placed.{Placed}
-use Rattle.rtps_evidence.specs.Locations.{find_last, is_before, is_behind, location_of}
-use Rattle.rtps_evidence.specs.Missed.{asks_for, brings, brings_before, brings_behind}
-use Rattle.rtps_evidence.specs.Requests.{is_in_vain, met_among, met_at, met_by, new_request, requested}
-use Rattle.rtps_evidence.specs.Requests.{option_any}
+use Rattle.rtps_evidence.specs.Locations as locations
+use Rattle.rtps_evidence.specs.Missed as missed
+use Rattle.rtps_evidence.specs.Requests as requests
 use Rattle.rtps_evidence.specs.declared.location.Location.{Location}
 use Rattle.rtps_evidence.specs.declared.missed_numbers.Request.{Request}
 
@@ -40,13 +39,13 @@ none_so_far n member lacks old x = grind (arith, nat_tests)
 -- ---- the requests of a reader's acts
 
 -- a list with the element at hand
-pub taken_more : (acts : List Placed) (i : ℕ) (x : Placed) → i < length acts → x ≡ get_or acts i x → map placed_value (take (i + 1) acts) ≡ map placed_value (take i acts) ++ placed_value x ∷ []
-taken_more acts i x lt at = ap (map placed_value) (take_more acts i x lt) ∙ map-append placed_value (take i acts) (get_or acts i x ∷ []) ∙ ap (λ y. map placed_value (take i acts) ++ placed_value y ∷ []) (sym at)
+pub taken_more : (acts : List Placed) (i : ℕ) (x : Placed) → i < length acts → x ≡ get_or acts i x → map placed.placed_value (take (i + 1) acts) ≡ map placed.placed_value (take i acts) ++ placed.placed_value x ∷ []
+taken_more acts i x lt at = ap (map placed.placed_value) (take_more acts i x lt) ∙ map-append placed.placed_value (take i acts) (get_or acts i x ∷ []) ∙ ap (λ y. map placed.placed_value (take i acts) ++ placed.placed_value y ∷ []) (sym at)
 
-last_of_more : (test : PlacedValue → Bool) (xs : List PlacedValue) (x : PlacedValue) → find_last test (xs ++ x ∷ []) ≡ cond (test x) (Some x) (find_last test xs)
+last_of_more : (test : placed.PlacedValue → Bool) (xs : List placed.PlacedValue) (x : placed.PlacedValue) → locations.find_last test (xs ++ x ∷ []) ≡ cond (test x) (Some x) (locations.find_last test xs)
 last_of_more test xs x = ap (last_or None) (filtered xs) ∙ by (test x)
   where
-    filtered : (ys : List PlacedValue) → filter test (ys ++ x ∷ []) ≡ filter test ys ++ cond (test x) (x ∷ []) []
+    filtered : (ys : List placed.PlacedValue) → filter test (ys ++ x ∷ []) ≡ filter test ys ++ cond (test x) (x ∷ []) []
     filtered [] = refl
     filtered (y ∷ ys) = ap (λ l. cond (test y) (y ∷ l) l) (filtered ys) ∙ pushed (test y)
       where
@@ -54,11 +53,11 @@ last_of_more test xs x = ap (last_or None) (filtered xs) ∙ by (test x)
         pushed true = refl
         pushed false = refl
 
-    last_pushed : (before : Option PlacedValue) (ys : List PlacedValue) → last_or before (ys ++ x ∷ []) ≡ Some x
+    last_pushed : (before : Option placed.PlacedValue) (ys : List placed.PlacedValue) → last_or before (ys ++ x ∷ []) ≡ Some x
     last_pushed before [] = refl
     last_pushed before (y ∷ ys) = last_pushed (Some y) ys
 
-    same_list : (ys : List PlacedValue) → ys ++ [] ≡ ys
+    same_list : (ys : List placed.PlacedValue) → ys ++ [] ≡ ys
     same_list [] = refl
     same_list (y ∷ ys) = ap (λ l. y ∷ l) (same_list ys)
 
@@ -66,8 +65,8 @@ last_of_more test xs x = ap (last_or None) (filtered xs) ∙ by (test x)
     by true = last_pushed None (filter test xs)
     by false = ap (last_or None) (same_list (filter test xs))
 
-pub requested_more : (pair : Pair) (xs : List PlacedValue) (x : PlacedValue) (lacks : ℕ → Bool) (n : ℕ)
-    → cond (asks_for pair.writer pair.reader n x && lacks n) (Some (new_request (location_of x))) (requested pair xs lacks n) ≡ requested pair (xs ++ x ∷ []) lacks n
+pub requested_more : (pair : Pair) (xs : List placed.PlacedValue) (x : placed.PlacedValue) (lacks : ℕ → Bool) (n : ℕ)
+    → cond (missed.asks_for pair.writer pair.reader n x && lacks n) (Some (requests.new_request (locations.location_of x))) (requests.requested pair xs lacks n) ≡ requests.requested pair (xs ++ x ∷ []) lacks n
 requested_more pair xs x lacks n = grind (arith, nat_tests, common_steps, last_of_more)
 
 -- ---- what a writer's acts bring
@@ -88,44 +87,44 @@ again_true m k a b = grind (arith, nat_tests)
 again_false : (m k a b : Bool) → (m || k) ≡ (m || (k || ((a && (b && false)) || false)))
 again_false m k a b = grind (arith, nat_tests)
 
-pub met_more : (since : Option Location) (pair : Pair) (n : ℕ) (xs : List PlacedValue) (x : PlacedValue) (old : Option Request)
-    → option_map (met_by since pair n x) (option_map (met_among since pair n xs) old) ≡ option_map (met_among since pair n (xs ++ x ∷ [])) old
+pub met_more : (since : Option Location) (pair : Pair) (n : ℕ) (xs : List placed.PlacedValue) (x : placed.PlacedValue) (old : Option Request)
+    → option_map (requests.met_by since pair n x) (option_map (requests.met_among since pair n xs) old) ≡ option_map (requests.met_among since pair n (xs ++ x ∷ [])) old
 met_more since pair n xs x None = refl
 met_more since pair n xs x (Some request) =
-    ap Some (by (brings pair.writer pair.reader n x)
+    ap Some (by (missed.brings pair.writer pair.reader n x)
     ∙ sym (ap (λ m. so (request.is_met || m) (request.is_again || list_any again (xs ++ x ∷ []))) (list_any-append met xs (x ∷ []))
     ∙ ap (λ m. so (request.is_met || (list_any met xs || (met x || false))) (request.is_again || m)) (list_any-append again xs (x ∷ []))))
   where
     so : Bool → Bool → Request
     so m a = record { place = request.place; is_met = m; is_again = a }
 
-    met : PlacedValue → Bool
-    met = brings_behind (Some request.place) pair.writer pair.reader n
+    met : placed.PlacedValue → Bool
+    met = missed.brings_behind (Some request.place) pair.writer pair.reader n
 
-    again : PlacedValue → Bool
-    again = brings_before since request.place pair.writer pair.reader n
+    again : placed.PlacedValue → Bool
+    again = missed.brings_before since request.place pair.writer pair.reader n
 
-    by : (b : Bool) → cond b (met_at since x (met_among since pair n xs request)) (met_among since pair n xs request)
-        ≡ so (request.is_met || (list_any met xs || ((is_behind (Some request.place) x && b) || false))) (request.is_again || (list_any again xs || ((is_before request.place x && (is_behind since x && b)) || false)))
+    by : (b : Bool) → cond b (requests.met_at since x (requests.met_among since pair n xs request)) (requests.met_among since pair n xs request)
+        ≡ so (request.is_met || (list_any met xs || ((locations.is_behind (Some request.place) x && b) || false))) (request.is_again || (list_any again xs || ((locations.is_before request.place x && (locations.is_behind since x && b)) || false)))
     by true =
-        ap (λ m. so m ((request.is_again || list_any again xs) || (is_before request.place x && is_behind since x))) (met_true request.is_met (list_any met xs) (is_behind (Some request.place) x))
-        ∙ ap (λ a. so (request.is_met || (list_any met xs || ((is_behind (Some request.place) x && true) || false))) a) (again_true request.is_again (list_any again xs) (is_before request.place x) (is_behind since x))
+        ap (λ m. so m ((request.is_again || list_any again xs) || (locations.is_before request.place x && locations.is_behind since x))) (met_true request.is_met (list_any met xs) (locations.is_behind (Some request.place) x))
+        ∙ ap (λ a. so (request.is_met || (list_any met xs || ((locations.is_behind (Some request.place) x && true) || false))) a) (again_true request.is_again (list_any again xs) (locations.is_before request.place x) (locations.is_behind since x))
     by false =
-        ap (λ m. so m (request.is_again || list_any again xs)) (met_false request.is_met (list_any met xs) (is_behind (Some request.place) x))
-        ∙ ap (λ a. so (request.is_met || (list_any met xs || ((is_behind (Some request.place) x && false) || false))) a) (again_false request.is_again (list_any again xs) (is_before request.place x) (is_behind since x))
+        ap (λ m. so m (request.is_again || list_any again xs)) (met_false request.is_met (list_any met xs) (locations.is_behind (Some request.place) x))
+        ∙ ap (λ a. so (request.is_met || (list_any met xs || ((locations.is_behind (Some request.place) x && false) || false))) a) (again_false request.is_again (list_any again xs) (locations.is_before request.place x) (locations.is_behind since x))
 
 -- ---- the numbers that are asked for in vain
 
 -- some of these entries has n, and is in vain
 abbrev pub some_in_vain : List (ℕ × Request) → ℕ → Bool
-some_in_vain entries n = list_any (λ (entry : ℕ × Request). is_in_vain entry.1 && (entry.0 == n)) entries
+some_in_vain entries n = list_any (λ (entry : ℕ × Request). requests.is_in_vain entry.1 && (entry.0 == n)) entries
 
 -- each entry is found by its key
 abbrev pub AreFound : (ℕ → Option Request) → List (ℕ × Request) → Type 0
 AreFound find entries = All (λ (entry : ℕ × Request). find entry.0 ≡ Some entry.1) entries
 
 -- where what is found for n is not in vain, no entry says that n is
-none_in_vain : (find : ℕ → Option Request) (entries : List (ℕ × Request)) (n : ℕ) → AreFound find entries → option_any is_in_vain (find n) ≡ false → some_in_vain entries n ≡ false
+none_in_vain : (find : ℕ → Option Request) (entries : List (ℕ × Request)) (n : ℕ) → AreFound find entries → requests.option_any requests.is_in_vain (find n) ≡ false → some_in_vain entries n ≡ false
 none_in_vain find [] n found out = refl
 none_in_vain find (entry ∷ entries) n found out =
     by (entry.0 == n) refl ∙ none_in_vain find entries n (All-tail (λ (e : ℕ × Request). find e.0 ≡ Some e.1) entry entries found) out
@@ -134,16 +133,16 @@ none_in_vain find (entry ∷ entries) n found out =
     and_no true = refl
     and_no false = refl
 
-    by : (b : Bool) → (entry.0 == n) ≡ b → ((is_in_vain entry.1 && (entry.0 == n)) || some_in_vain entries n) ≡ some_in_vain entries n
+    by : (b : Bool) → (entry.0 == n) ≡ b → ((requests.is_in_vain entry.1 && (entry.0 == n)) || some_in_vain entries n) ≡ some_in_vain entries n
     by true at =
         let same : entry.0 ≡ n = grind (arith, nat_tests, at) in
         let here : find n ≡ Some entry.1 = sym (ap find same) ∙ All-head (λ (e : ℕ × Request). find e.0 ≡ Some e.1) entry entries found in
-        let not_in_vain : is_in_vain entry.1 ≡ false = sym (ap (option_any is_in_vain) here) ∙ out in
+        let not_in_vain : requests.is_in_vain entry.1 ≡ false = sym (ap (requests.option_any requests.is_in_vain) here) ∙ out in
         ap (λ b. (b && (entry.0 == n)) || some_in_vain entries n) not_in_vain
-    by false at = ap (λ b. (is_in_vain entry.1 && b) || some_in_vain entries n) at ∙ ap (λ b. b || some_in_vain entries n) (and_no (is_in_vain entry.1))
+    by false at = ap (λ b. (requests.is_in_vain entry.1 && b) || some_in_vain entries n) at ∙ ap (λ b. b || some_in_vain entries n) (and_no (requests.is_in_vain entry.1))
 
 -- an entry of n that is in vain says so
-one_in_vain : (entries : List (ℕ × Request)) (n : ℕ) (request : Request) → lookup (λ key. is_eq (nat_cmp n key)) entries ≡ Some request → is_in_vain request ≡ true → some_in_vain entries n ≡ true
+one_in_vain : (entries : List (ℕ × Request)) (n : ℕ) (request : Request) → lookup (λ key. is_eq (nat_cmp n key)) entries ≡ Some request → requests.is_in_vain request ≡ true → some_in_vain entries n ≡ true
 one_in_vain [] n request found is = absurd (let no : None ≡ Some request = found in cc)
 one_in_vain (entry ∷ entries) n request found is = by (λ more. one_in_vain entries n request more is) (is_eq (nat_cmp n entry.0)) refl found
   where
@@ -152,16 +151,16 @@ one_in_vain (entry ∷ entries) n request found is = by (λ more. one_in_vain en
     or_yes false = refl
 
     by : (lookup (λ key. is_eq (nat_cmp n key)) entries ≡ Some request → some_in_vain entries n ≡ true)
-        → (b : Bool) → is_eq (nat_cmp n entry.0) ≡ b → cond b (Some entry.1) (lookup (λ key. is_eq (nat_cmp n key)) entries) ≡ Some request → ((is_in_vain entry.1 && (entry.0 == n)) || some_in_vain entries n) ≡ true
+        → (b : Bool) → is_eq (nat_cmp n entry.0) ≡ b → cond b (Some entry.1) (lookup (λ key. is_eq (nat_cmp n key)) entries) ≡ Some request → ((requests.is_in_vain entry.1 && (entry.0 == n)) || some_in_vain entries n) ≡ true
     by onward true at found =
         let equal : (n == entry.0) ≡ true = sym (is_key n entry.0) ∙ at in
         let same : (entry.0 == n) ≡ true = grind (arith, nat_tests, equal) in
         let here : entry.1 ≡ request = (let e : Some entry.1 ≡ Some request = found in cc) in
-        let in_vain : is_in_vain entry.1 ≡ true = ap is_in_vain here ∙ is in
+        let in_vain : requests.is_in_vain entry.1 ≡ true = ap requests.is_in_vain here ∙ is in
         rw (in_vain, same) refl
-    by onward false at found = ap (λ b. (is_in_vain entry.1 && (entry.0 == n)) || b) (onward found) ∙ or_yes (is_in_vain entry.1 && (entry.0 == n))
+    by onward false at found = ap (λ b. (requests.is_in_vain entry.1 && (entry.0 == n)) || b) (onward found) ∙ or_yes (requests.is_in_vain entry.1 && (entry.0 == n))
 
-pub found_in_vain : (find : ℕ → Option Request) (entries : List (ℕ × Request)) (n : ℕ) → AreFound find entries → find n ≡ lookup (λ key. is_eq (nat_cmp n key)) entries → some_in_vain entries n ≡ option_any is_in_vain (find n)
+pub found_in_vain : (find : ℕ → Option Request) (entries : List (ℕ × Request)) (n : ℕ) → AreFound find entries → find n ≡ lookup (λ key. is_eq (nat_cmp n key)) entries → some_in_vain entries n ≡ requests.option_any requests.is_in_vain (find n)
 found_in_vain find entries n found is = grind (arith, nat_tests, common_steps, one_in_vain, none_in_vain)
 
 -- a number as a stretch, as long as there is a number behind it

@@ -3,10 +3,10 @@ use Rattle.std.proofs.lemmas.Grind.{common_steps}
 use Rattle.std.proofs.lemmas.Bool.Decides.{nat_tests}
 use Rattle.std.proofs.Common.{◌≡◌, ℕ, ◌+◌, ◌<◌, List, [], ◌∷◌, ◌++◌, length, map, take, get_or, subst, sym, arith}
 use Rattle.rtps_discovery.specs.declared.matching.Pair.{Pair}
-use Rattle.rtps_receiver.specs.Values.{ActValue}
+use Rattle.rtps_receiver.specs.Values as values
 use Rattle.rtps_audit.specs.declared.report.Row.{Row}
-use Rattle.rtps_evidence.specs.Evidence.{IsVerdictIn}
-use Rattle.rtps_evidence.specs.Explanation.{row_of}
+use Rattle.rtps_evidence.specs.Evidence as evidence
+use Rattle.rtps_evidence.specs.Explanation as explanation
 use Rattle.rtps_evidence.specs.declared.explanation.Explanation.{Explanation}
 use Rattle.rtps_evidence.specs.declared.judgement.Judgement.{Judgement}
 
@@ -16,7 +16,7 @@ pairs_more old new x rows i d lt is pair so_far = grind (arith, nat_tests, commo
 
 pub rows_more : (old new : List Explanation) (x : Explanation) (rows : List Row) (i : ℕ) (d : Row) → i < length rows → new ≡ old ++ x ∷ []
     → x.pair ≡ (get_or rows i d).pair → x.evidence.verdict ≡ (get_or rows i d).verdict
-    → map row_of old ≡ take i rows → map row_of new ≡ take (i + 1) rows
+    → map explanation.row_of old ≡ take i rows → map explanation.row_of new ≡ take (i + 1) rows
 rows_more old new x rows i d lt is pair verdict so_far = grind (arith, nat_tests, common_steps)
 
 -- rows of pairs, one more at a time
@@ -25,5 +25,5 @@ pub judged_more : (old new : List Row) (x : Row) (pairs : List Pair) (i : ℕ) (
 judged_more old new x pairs i d lt is pair so_far = grind (arith, nat_tests, common_steps)
 
 -- the verdict on a row's pair is that on the judgement's
-pub judged_row : (judgement : Judgement) (pair : Pair) (acts : List (List ActValue)) → judgement.pair ≡ pair → IsVerdictIn judgement.span pair acts judgement.verdict → IsVerdictIn judgement.span judgement.pair acts judgement.verdict
-judged_row judgement pair acts same judged = subst (λ (p : Pair). IsVerdictIn judgement.span p acts judgement.verdict) (sym same) judged
+pub judged_row : (judgement : Judgement) (pair : Pair) (acts : List (List values.ActValue)) → judgement.pair ≡ pair → evidence.IsVerdictIn judgement.span pair acts judgement.verdict → evidence.IsVerdictIn judgement.span judgement.pair acts judgement.verdict
+judged_row judgement pair acts same judged = subst (λ (p : Pair). evidence.IsVerdictIn judgement.span p acts judgement.verdict) (sym same) judged

@@ -9,22 +9,22 @@ use Rattle.std.proofs.lemmas.Bool.{and_parts, cases_lt}
 use Rattle.std.proofs.lemmas.List.Folds.{list_any-append}
 use Rattle.std.proofs.lemmas.Bool.Decides.{nat_tests}
 use Rattle.rtps_ids.specs.declared.identity.Guid.{Guid}
-use Rattle.rtps_discovery.specs.Leaving.{is_one_of, leaves}
+use Rattle.rtps_discovery.specs.Leaving as leaving
 use Rattle.rtps_discovery.specs.declared.matching.Pair.{Pair}
-use Rattle.rtps_receiver.specs.Speech.{is_request, is_spoken_by, origin_of}
-use Rattle.rtps_receiver.specs.Values.{ActValue}
-use Rattle.rtps_receiver.specs.Said.{numbers_have, said}
+use Rattle.rtps_receiver.specs.Speech as receiver_speech
+use Rattle.rtps_receiver.specs.Values as values
+use Rattle.rtps_receiver.specs.Said as said
 use Rattle.rtps_receiver.specs.declared.said.Numbers.{Numbers}
-use Rattle.rtps_audit.specs.Delivery.{greatest}
-use Rattle.rtps_audit.specs.Intake.{Intake}
-use Rattle.rtps_audit.specs.Placed.{PlacedValue, answer_at, answers_among, is_from, placed_in, placed_value}
+use Rattle.rtps_audit.specs.Delivery as delivery
+use Rattle.rtps_audit.specs.Intake as intake
+use Rattle.rtps_audit.specs.Placed as placed_spec
 use Rattle.rtps_audit.specs.declared.placed.Placed.{Placed}
-use Rattle.rtps_audit.specs.Speech.{base_for}
+use Rattle.rtps_audit.specs.Speech as audit_speech
 use Rattle.rtps_audit.proofs.Offered.{speaker_is_origin}
 use Rattle.rtps_evidence.proofs.AskingLemmas.{requester_is_origin}
-use Rattle.rtps_evidence.specs.Locations.{is_before, is_behind, number_said}
-use Rattle.rtps_evidence.specs.Missed.{asks_for, brings_behind, brings_some}
-use Rattle.rtps_evidence.specs.Spans.{IsEndOf, IsLeastFrom, IsOwedFrom, IsVolatileIn, least_owed, announced_before, claims_at_before, claims_before, gaps_behind, is_for_reader, is_gone_first, leaves_behind, lesser_of}
+use Rattle.rtps_evidence.specs.Locations as locations
+use Rattle.rtps_evidence.specs.Missed as missed
+use Rattle.rtps_evidence.specs.Spans as spans
 use Rattle.rtps_evidence.specs.declared.location.Location.{Location}
 use Rattle.rtps_evidence.proofs.MissedLemmas.{brought_same}
 use Rattle.rtps_evidence.proofs.FindLemmas.{any_filter}
@@ -32,7 +32,7 @@ use Rattle.rtps_evidence.proofs.PlacedOrder.{AreOrdered}
 
 -- ---- the least number that has it
 
-pub least_same : (one other : ℕ → Bool) (lo : ℕ) (o : Option ℕ) → ((n : ℕ) → one n ≡ other n) → IsLeastFrom other lo o → IsLeastFrom one lo o
+pub least_same : (one other : ℕ → Bool) (lo : ℕ) (o : Option ℕ) → ((n : ℕ) → one n ≡ other n) → spans.IsLeastFrom other lo o → spans.IsLeastFrom one lo o
 least_same one other lo o h h2 = grind (arith, nat_tests)
 
 neither : (a b : Bool) → a ≡ false → b ≡ false → (a || b) ≡ false
@@ -44,70 +44,70 @@ first a b h = grind (arith, nat_tests)
 second : (a b : Bool) → b ≡ true → (a || b) ≡ true
 second a b h = grind (arith, nat_tests)
 
-pub least_either : (one other : ℕ → Bool) (lo : ℕ) (a b : Option ℕ) → IsLeastFrom one lo a → IsLeastFrom other lo b → IsLeastFrom (λ n. one n || other n) lo (lesser_of a b)
+pub least_either : (one other : ℕ → Bool) (lo : ℕ) (a b : Option ℕ) → spans.IsLeastFrom one lo a → spans.IsLeastFrom other lo b → spans.IsLeastFrom (λ n. one n || other n) lo (spans.lesser_of a b)
 least_either one other lo a b h h2 = grind (arith, nat_tests)
 
 pub least_more : {X Y : Type 0} (v : X → Y) (test : ℕ → Y → Bool) (xs : List X) (i : ℕ) (x : X) (lo : ℕ) (one other found : Option ℕ) → i < length xs → x ≡ get_or xs i x
-    → IsLeastFrom (λ n. list_any (test n) (map v (take i xs))) lo one → IsLeastFrom (λ n. test n (v x)) lo other → found ≡ lesser_of one other
-    → IsLeastFrom (λ n. list_any (test n) (map v (take (i + 1) xs))) lo found
+    → spans.IsLeastFrom (λ n. list_any (test n) (map v (take i xs))) lo one → spans.IsLeastFrom (λ n. test n (v x)) lo other → found ≡ spans.lesser_of one other
+    → spans.IsLeastFrom (λ n. list_any (test n) (map v (take (i + 1) xs))) lo found
 least_more v test xs i x lo one other found lt at so_far here is = grind (arith, nat_tests, common_steps)
 
-pub lesser_below : (one other found : Option ℕ) → IfSome one (λ number. number < 2 ^ 63) → IfSome other (λ number. number < 2 ^ 63) → found ≡ lesser_of one other → IfSome found (λ number. number < 2 ^ 63)
+pub lesser_below : (one other found : Option ℕ) → IfSome one (λ number. number < 2 ^ 63) → IfSome other (λ number. number < 2 ^ 63) → found ≡ spans.lesser_of one other → IfSome found (λ number. number < 2 ^ 63)
 lesser_below one other found low under is = grind (arith, nat_tests)
 
 -- ---- the numbers that an act asks for
 
-pub asked_least : (pair : Pair) (placed : PlacedValue) (lacked : Numbers) (lo : ℕ) (o : Option ℕ) → is_request placed.act pair.reader pair.writer ≡ true → ((n : ℕ) → numbers_have lacked n ≡ (said placed.act.body).lacked n)
-    → IsLeastFrom (numbers_have lacked) lo o → IsLeastFrom (λ n. asks_for pair.writer pair.reader n placed) lo o
+pub asked_least : (pair : Pair) (placed : placed_spec.PlacedValue) (lacked : Numbers) (lo : ℕ) (o : Option ℕ) → receiver_speech.is_request placed.act pair.reader pair.writer ≡ true → ((n : ℕ) → said.numbers_have lacked n ≡ (said.said placed.act.body).lacked n)
+    → spans.IsLeastFrom (said.numbers_have lacked) lo o → spans.IsLeastFrom (λ n. missed.asks_for pair.writer pair.reader n placed) lo o
 asked_least pair placed lacked lo o answers are least = grind (arith, nat_tests)
 
 -- ---- the same by the acts of one
 
-pub claims_same : (pair : Pair) (place : Location) (placed : List PlacedValue) → list_any (claims_at_before place) (answers_among pair placed) ≡ list_any (claims_before place pair) placed
+pub claims_same : (pair : Pair) (place : Location) (placed : List placed_spec.PlacedValue) → list_any (spans.claims_at_before place) (placed_spec.answers_among pair placed) ≡ list_any (spans.claims_before place pair) placed
 claims_same pair place [] = refl
-claims_same pair place (x ∷ placed) = by (base_for pair.writer pair.reader x.act) refl (claims_same pair place placed)
+claims_same pair place (x ∷ placed) = by (audit_speech.base_for pair.writer pair.reader x.act) refl (claims_same pair place placed)
   where
     rest : Bool
-    rest = list_any (claims_before place pair) placed
+    rest = list_any (spans.claims_before place pair) placed
 
     never : (b : Bool) → rest ≡ ((b && false) || rest)
     never true = refl
     never false = refl
 
-    by : (said : Option ℕ) → base_for pair.writer pair.reader x.act ≡ said → list_any (claims_at_before place) (answers_among pair placed) ≡ rest
-        → list_any (claims_at_before place) (cons_option (answer_at x.datagram x.act.at said) (answers_among pair placed)) ≡ ((is_before place x && nat_lt 1 (unwrap_or (base_for pair.writer pair.reader x.act) 0)) || rest)
+    by : (said : Option ℕ) → audit_speech.base_for pair.writer pair.reader x.act ≡ said → list_any (spans.claims_at_before place) (placed_spec.answers_among pair placed) ≡ rest
+        → list_any (spans.claims_at_before place) (cons_option (placed_spec.answer_at x.datagram x.act.at said) (placed_spec.answers_among pair placed)) ≡ ((locations.is_before place x && nat_lt 1 (unwrap_or (audit_speech.base_for pair.writer pair.reader x.act) 0)) || rest)
     by None said h =
         let low : nat_lt 1 0 ≡ false = grind (arith, nat_tests) in
-        h ∙ never (is_before place x) ∙ ap (λ b. (is_before place x && b) || rest) (sym low) ∙ sym (ap (λ o. (is_before place x && nat_lt 1 (unwrap_or o 0)) || rest) said)
-    by (Some base) said h = ap (λ b. (is_before place x && nat_lt 1 base) || b) h ∙ sym (ap (λ o. (is_before place x && nat_lt 1 (unwrap_or o 0)) || rest) said)
+        h ∙ never (locations.is_before place x) ∙ ap (λ b. (locations.is_before place x && b) || rest) (sym low) ∙ sym (ap (λ o. (locations.is_before place x && nat_lt 1 (unwrap_or o 0)) || rest) said)
+    by (Some base) said h = ap (λ b. (locations.is_before place x && nat_lt 1 base) || b) h ∙ sym (ap (λ o. (locations.is_before place x && nat_lt 1 (unwrap_or o 0)) || rest) said)
 
-pub asked_same : (pair : Pair) (n : ℕ) (placed : List PlacedValue) → list_any (asks_for pair.writer pair.reader n) (filter (is_from pair.reader) placed) ≡ list_any (asks_for pair.writer pair.reader n) placed
+pub asked_same : (pair : Pair) (n : ℕ) (placed : List placed_spec.PlacedValue) → list_any (missed.asks_for pair.writer pair.reader n) (filter (placed_spec.is_from pair.reader) placed) ≡ list_any (missed.asks_for pair.writer pair.reader n) placed
 asked_same pair n placed = grind (arith, nat_tests, common_steps, any_filter, requester_is_origin, and_parts)
 
 -- the greatest of what is 0 for all that are left out
-pub greatest_filter : (number : PlacedValue → ℕ) (keeps : PlacedValue → Bool) → ((x : PlacedValue) → keeps x ≡ false → number x ≡ 0) → (placed : List PlacedValue) → greatest (map number (filter keeps placed)) ≡ greatest (map number placed)
+pub greatest_filter : (number : placed_spec.PlacedValue → ℕ) (keeps : placed_spec.PlacedValue → Bool) → ((x : placed_spec.PlacedValue) → keeps x ≡ false → number x ≡ 0) → (placed : List placed_spec.PlacedValue) → delivery.greatest (map number (filter keeps placed)) ≡ delivery.greatest (map number placed)
 greatest_filter number keeps none [] = refl
 greatest_filter number keeps none (x ∷ placed) = by (keeps x) refl (greatest_filter number keeps none placed)
   where
-    by : (b : Bool) → keeps x ≡ b → greatest (map number (filter keeps placed)) ≡ greatest (map number placed) → greatest (map number (cond b (x ∷ filter keeps placed) (filter keeps placed))) ≡ max (number x) (greatest (map number placed))
+    by : (b : Bool) → keeps x ≡ b → delivery.greatest (map number (filter keeps placed)) ≡ delivery.greatest (map number placed) → delivery.greatest (map number (cond b (x ∷ filter keeps placed) (filter keeps placed))) ≡ max (number x) (delivery.greatest (map number placed))
     by true kept h = ap (max (number x)) h
     by false kept h = let zero = none x kept in omega (arith, h)
 
-pub announced_same : (writer : Guid) (place : Location) (placed : List PlacedValue) → announced_before place writer (filter (is_from writer) placed) ≡ announced_before place writer placed
+pub announced_same : (writer : Guid) (place : Location) (placed : List placed_spec.PlacedValue) → spans.announced_before place writer (filter (placed_spec.is_from writer) placed) ≡ spans.announced_before place writer placed
 announced_same writer place placed = grind (arith, nat_tests, common_steps, greatest_filter, speaker_is_origin)
 
-pub said_same : (writer : Guid) (placed : List PlacedValue) → greatest (map (number_said writer) (filter (is_from writer) placed)) ≡ greatest (map (number_said writer) placed)
+pub said_same : (writer : Guid) (placed : List placed_spec.PlacedValue) → delivery.greatest (map (locations.number_said writer) (filter (placed_spec.is_from writer) placed)) ≡ delivery.greatest (map (locations.number_said writer) placed)
 said_same writer placed = grind (arith, nat_tests, common_steps, greatest_filter, speaker_is_origin)
 
 -- ---- what is told gone first
 
-pub end_same : (one other : ℕ → Bool) (end : ℕ) → ((n : ℕ) → one n ≡ other n) → IsEndOf other end → IsEndOf one end
+pub end_same : (one other : ℕ → Bool) (end : ℕ) → ((n : ℕ) → one n ≡ other n) → spans.IsEndOf other end → spans.IsEndOf one end
 end_same one other end same is = record { below = λ n has. is.below n (sym (same n) ∙ has); last = λ some. same (end - 1) ∙ is.last some }
 
-pub end_none : (has : ℕ → Bool) → ((n : ℕ) → has n ≡ false) → IsEndOf has 0
+pub end_none : (has : ℕ → Bool) → ((n : ℕ) → has n ≡ false) → spans.IsEndOf has 0
 end_none has none = record { below = λ n is. absurd (let no : false ≡ true = sym (none n) ∙ is in cc); last = λ some. absurd (omega arith) }
 
-pub end_found : (has : ℕ → Bool) (end : ℕ) → ((n : ℕ) → end ≤ n → has n ≡ false) → (0 < end → has (end - 1) ≡ true) → IsEndOf has end
+pub end_found : (has : ℕ → Bool) (end : ℕ) → ((n : ℕ) → end ≤ n → has n ≡ false) → (0 < end → has (end - 1) ≡ true) → spans.IsEndOf has end
 end_found has end past last = record {
   below = λ n is. elim (cases_lt n end) [
     | inl lt ↦ lt
@@ -116,7 +116,7 @@ end_found has end past last = record {
   last = last;
 }
 
-pub end_max : (one other : ℕ → Bool) (a b : ℕ) → IsEndOf one a → IsEndOf other b → IsEndOf (λ n. one n || other n) (max a b)
+pub end_max : (one other : ℕ → Bool) (a b : ℕ) → spans.IsEndOf one a → spans.IsEndOf other b → spans.IsEndOf (λ n. one n || other n) (max a b)
 end_max one other a b is also = record {
   below = λ n has. below n (one n) (other n) refl refl has;
   last = λ some. elim (cases_lt a b) [
@@ -134,7 +134,7 @@ end_max one other a b is also = record {
     below n false true at_one at_other has = let lt = also.below n at_other in omega arith
     below n false false at_one at_other has = absurd (let no : true ≡ false = sym has ∙ ap (λ c. c || other n) at_one ∙ at_other in cc)
 
-pub one_end : (has : ℕ → Bool) (one other : ℕ) → IsEndOf has one → IsEndOf has other → one ≡ other
+pub one_end : (has : ℕ → Bool) (one other : ℕ) → spans.IsEndOf has one → spans.IsEndOf has other → one ≡ other
 one_end has one other is also = elim (cases_lt one other) [
   | inl lt ↦ absurd (let low = is.below (other - 1) (also.last (omega arith)) in omega arith)
   | inr ge ↦ elim (cases_lt other one) [
@@ -153,7 +153,7 @@ pub first_stops : {X : Type 0} (test : X → Bool) (x : X) (xs : List X) → tes
 first_stops test x xs is = ap (λ b. take (cond (not b) (1 + prefix_len (λ y. not (test y)) xs) 0) (x ∷ xs)) is
 
 -- what stands before the first that passes, behind some that do not
-pub before_first_on : (test : PlacedValue → Bool) (xs ys : List PlacedValue) → list_any test xs ≡ false → before_first test (xs ++ ys) ≡ xs ++ before_first test ys
+pub before_first_on : (test : placed_spec.PlacedValue → Bool) (xs ys : List placed_spec.PlacedValue) → list_any test xs ≡ false → before_first test (xs ++ ys) ≡ xs ++ before_first test ys
 before_first_on test [] ys none = refl
 before_first_on test (x ∷ xs) ys none = first_past test x (xs ++ ys) (here (test x) (list_any test xs) none) ∙ ap (λ l. x ∷ l) (before_first_on test xs ys (there (test x) (list_any test xs) none))
   where
@@ -164,29 +164,29 @@ before_first_on test (x ∷ xs) ys none = first_past test x (xs ++ ys) (here (te
     there a b h = grind (arith, nat_tests)
 
 -- what stands before the first that passes, where these do not and the next one does
-pub before_first_at : (test : PlacedValue → Bool) (xs : List PlacedValue) (x : PlacedValue) (ys : List PlacedValue) → list_any test xs ≡ false → test x ≡ true → before_first test (xs ++ x ∷ ys) ≡ xs
+pub before_first_at : (test : placed_spec.PlacedValue → Bool) (xs : List placed_spec.PlacedValue) (x : placed_spec.PlacedValue) (ys : List placed_spec.PlacedValue) → list_any test xs ≡ false → test x ≡ true → before_first test (xs ++ x ∷ ys) ≡ xs
 before_first_at test xs x ys none is = before_first_on test xs (x ∷ ys) none ∙ ap (λ l. xs ++ l) (first_stops test x ys is) ∙ append-nil xs
 
 -- the same of acts of the code, up to the one at a place, by which it stops
-pub before_first_here : (test : PlacedValue → Bool) (acts : List Placed) (i : ℕ) (x : Placed) → map placed_value (take (i + 1) acts) ≡ map placed_value (take i acts) ++ placed_value x ∷ []
-    → list_any test (map placed_value (take i acts)) ≡ false → test (placed_value x) ≡ true → before_first test (map placed_value acts) ≡ map placed_value (take i acts)
+pub before_first_here : (test : placed_spec.PlacedValue → Bool) (acts : List Placed) (i : ℕ) (x : Placed) → map placed_spec.placed_value (take (i + 1) acts) ≡ map placed_spec.placed_value (take i acts) ++ placed_spec.placed_value x ∷ []
+    → list_any test (map placed_spec.placed_value (take i acts)) ≡ false → test (placed_spec.placed_value x) ≡ true → before_first test (map placed_spec.placed_value acts) ≡ map placed_spec.placed_value (take i acts)
 before_first_here test acts i x more none is =
-    ap (λ l. before_first test (map placed_value l)) (sym (take-append-drop (i + 1) acts))
-    ∙ ap (before_first test) (map-append placed_value (take (i + 1) acts) (drop (i + 1) acts) ∙ ap (λ l. l ++ map placed_value (drop (i + 1) acts)) more ∙ append_assoc (map placed_value (take i acts)) (placed_value x ∷ []) (map placed_value (drop (i + 1) acts)))
-    ∙ before_first_at test (map placed_value (take i acts)) (placed_value x) (map placed_value (drop (i + 1) acts)) none is
+    ap (λ l. before_first test (map placed_spec.placed_value l)) (sym (take-append-drop (i + 1) acts))
+    ∙ ap (before_first test) (map-append placed_spec.placed_value (take (i + 1) acts) (drop (i + 1) acts) ∙ ap (λ l. l ++ map placed_spec.placed_value (drop (i + 1) acts)) more ∙ append_assoc (map placed_spec.placed_value (take i acts)) (placed_spec.placed_value x ∷ []) (map placed_spec.placed_value (drop (i + 1) acts)))
+    ∙ before_first_at test (map placed_spec.placed_value (take i acts)) (placed_spec.placed_value x) (map placed_spec.placed_value (drop (i + 1) acts)) none is
 
 -- all of them, where it does not stop
-pub before_first_all : (test : PlacedValue → Bool) (xs : List PlacedValue) → list_any test xs ≡ false → before_first test xs ≡ xs
+pub before_first_all : (test : placed_spec.PlacedValue → Bool) (xs : List placed_spec.PlacedValue) → list_any test xs ≡ false → before_first test xs ≡ xs
 before_first_all test xs none = sym (ap (before_first test) (append-nil xs)) ∙ before_first_on test xs [] none ∙ append-nil xs
 
 or_no : (b : Bool) → (b || false) ≡ b
 or_no b = grind (arith, nat_tests)
 
-pub any_one_more : (test : PlacedValue → Bool) (xs : List PlacedValue) (x : PlacedValue) → list_any test (xs ++ x ∷ []) ≡ (list_any test xs || test x)
+pub any_one_more : (test : placed_spec.PlacedValue → Bool) (xs : List placed_spec.PlacedValue) (x : placed_spec.PlacedValue) → list_any test (xs ++ x ∷ []) ≡ (list_any test xs || test x)
 any_one_more test xs x = list_any-append test xs (x ∷ []) ∙ ap (λ b. list_any test xs || b) (or_no (test x))
 
 -- of acts that are left out none passes, and none has it
-pub before_first_same : (test has keeps : PlacedValue → Bool) → ((x : PlacedValue) → keeps x ≡ false → test x ≡ false) → ((x : PlacedValue) → keeps x ≡ false → has x ≡ false) → (xs : List PlacedValue)
+pub before_first_same : (test has keeps : placed_spec.PlacedValue → Bool) → ((x : placed_spec.PlacedValue) → keeps x ≡ false → test x ≡ false) → ((x : placed_spec.PlacedValue) → keeps x ≡ false → has x ≡ false) → (xs : List placed_spec.PlacedValue)
     → list_any has (before_first test (filter keeps xs)) ≡ list_any has (before_first test xs)
 before_first_same test has keeps out none [] = refl
 before_first_same test has keeps out none (x ∷ xs) = by (keeps x) (test x) refl refl (before_first_same test has keeps out none xs)
@@ -203,28 +203,28 @@ before_first_same test has keeps out none (x ∷ xs) = by (keeps x) (test x) ref
         ap (λ k. list_any has (before_first test (cond k (x ∷ filter keeps xs) (filter keeps xs)))) left
         ∙ h ∙ ap (λ b. b || list_any has (before_first test xs)) (sym (none x left)) ∙ sym (ap (list_any has) (first_past test x xs (out x left)))
 
-unspoken : (writer : Guid) (x : PlacedValue) → is_from writer x ≡ false → is_spoken_by x.act writer ≡ false
+unspoken : (writer : Guid) (x : placed_spec.PlacedValue) → placed_spec.is_from writer x ≡ false → receiver_speech.is_spoken_by x.act writer ≡ false
 unspoken writer x out = search rules
 
-brings_out : (place : Option Location) (pair : Pair) (x : PlacedValue) → is_from pair.writer x ≡ false → brings_some place pair.writer pair.reader x ≡ false
+brings_out : (place : Option Location) (pair : Pair) (x : placed_spec.PlacedValue) → placed_spec.is_from pair.writer x ≡ false → missed.brings_some place pair.writer pair.reader x ≡ false
 brings_out place pair x out = let no = unspoken pair.writer x out in grind (arith, nat_tests, no)
 
-gaps_out : (place : Option Location) (pair : Pair) (n : ℕ) (x : PlacedValue) → is_from pair.writer x ≡ false → gaps_behind place pair.writer pair.reader n x ≡ false
+gaps_out : (place : Option Location) (pair : Pair) (n : ℕ) (x : placed_spec.PlacedValue) → placed_spec.is_from pair.writer x ≡ false → spans.gaps_behind place pair.writer pair.reader n x ≡ false
 gaps_out place pair n x out = let no = unspoken pair.writer x out in grind (arith, nat_tests, no)
 
-pub gone_first_same : (place : Location) (pair : Pair) (placed : List PlacedValue) (n : ℕ) → is_gone_first place pair (filter (is_from pair.writer) placed) n ≡ is_gone_first place pair placed n
+pub gone_first_same : (place : Location) (pair : Pair) (placed : List placed_spec.PlacedValue) (n : ℕ) → spans.is_gone_first place pair (filter (placed_spec.is_from pair.writer) placed) n ≡ spans.is_gone_first place pair placed n
 gone_first_same place pair placed n =
-    before_first_same (brings_some (Some place) pair.writer pair.reader) (gaps_behind (Some place) pair.writer pair.reader n) (is_from pair.writer) (λ x out. brings_out (Some place) pair x out) (λ x out. gaps_out (Some place) pair n x out) placed
+    before_first_same (missed.brings_some (Some place) pair.writer pair.reader) (spans.gaps_behind (Some place) pair.writer pair.reader n) (placed_spec.is_from pair.writer) (λ x out. brings_out (Some place) pair x out) (λ x out. gaps_out (Some place) pair n x out) placed
 
 -- the least number that may be owed, by the acts of the writer
-pub owed_here : (from : ℕ) (place : Location) (pair : Pair) (intake : Intake) (acts : List PlacedValue) (volatile : Bool) (announced gone owed : ℕ) → acts ≡ filter (is_from pair.writer) (placed_in intake.acts)
-    → IsVolatileIn intake pair.reader volatile → announced ≡ announced_before place pair.writer acts → IsEndOf (is_gone_first place pair acts) gone → owed ≡ least_owed from volatile announced gone → IsOwedFrom from place pair intake owed
+pub owed_here : (from : ℕ) (place : Location) (pair : Pair) (intake : intake.Intake) (acts : List placed_spec.PlacedValue) (volatile : Bool) (announced gone owed : ℕ) → acts ≡ filter (placed_spec.is_from pair.writer) (placed_spec.placed_in intake.acts)
+    → spans.IsVolatileIn intake pair.reader volatile → announced ≡ spans.announced_before place pair.writer acts → spans.IsEndOf (spans.is_gone_first place pair acts) gone → owed ≡ spans.least_owed from volatile announced gone → spans.IsOwedFrom from place pair intake owed
 owed_here from place pair intake acts volatile announced gone owed are is_volatile said is_gone is = record {
   volatile = volatile;
   is_volatile = is_volatile;
   gone_end = gone;
-  is_gone_end = end_same (is_gone_first place pair (placed_in intake.acts)) (is_gone_first place pair acts) gone (λ n. sym (ap (λ l. is_gone_first place pair l n) are ∙ gone_first_same place pair (placed_in intake.acts) n)) is_gone;
-  is = is ∙ ap (λ a. least_owed from volatile a gone) (said ∙ ap (announced_before place pair.writer) are ∙ announced_same pair.writer place (placed_in intake.acts));
+  is_gone_end = end_same (spans.is_gone_first place pair (placed_spec.placed_in intake.acts)) (spans.is_gone_first place pair acts) gone (λ n. sym (ap (λ l. spans.is_gone_first place pair l n) are ∙ gone_first_same place pair (placed_spec.placed_in intake.acts) n)) is_gone;
+  is = is ∙ ap (λ a. spans.least_owed from volatile a gone) (said ∙ ap (spans.announced_before place pair.writer) are ∙ announced_same pair.writer place (placed_spec.placed_in intake.acts));
 }
 
 -- ---- who leaves first
@@ -233,19 +233,19 @@ abbrev pub AtLeast : ℕ → Option ℕ → Type 0
 AtLeast low None = Unit {0}
 AtLeast low (Some n) = low ≤ n
 
-lesser_left : (low : ℕ) (o : Option ℕ) → AtLeast low o → lesser_of (Some low) o ≡ Some low
+lesser_left : (low : ℕ) (o : Option ℕ) → AtLeast low o → spans.lesser_of (Some low) o ≡ Some low
 lesser_left low o h = grind (arith, nat_tests)
 
-lesser_right : (low : ℕ) (o : Option ℕ) → AtLeast low o → lesser_of o (Some low) ≡ Some low
+lesser_right : (low : ℕ) (o : Option ℕ) → AtLeast low o → spans.lesser_of o (Some low) ≡ Some low
 lesser_right low o h = grind (arith, nat_tests)
 
-abbrev pub datagram_of : Option PlacedValue → Option ℕ
-datagram_of o = option_map (λ (placed : PlacedValue). placed.datagram) o
+abbrev pub datagram_of : Option placed_spec.PlacedValue → Option ℕ
+datagram_of o = option_map (λ (placed : placed_spec.PlacedValue). placed.datagram) o
 
-found_past : (test : PlacedValue → Bool) (x : PlacedValue) (xs : List PlacedValue) (k : Bool) → find test (cond k (x ∷ xs) xs) ≡ cond k (cond (test x) (Some x) (find test xs)) (find test xs)
+found_past : (test : placed_spec.PlacedValue → Bool) (x : placed_spec.PlacedValue) (xs : List placed_spec.PlacedValue) (k : Bool) → find test (cond k (x ∷ xs) xs) ≡ cond k (cond (test x) (Some x) (find test xs)) (find test xs)
 found_past test x xs k = grind (arith, nat_tests)
 
-later_found : (test keeps : PlacedValue → Bool) (low : ℕ) (xs : List PlacedValue) → AreOrdered low xs → AtLeast low (datagram_of (find test (filter keeps xs)))
+later_found : (test keeps : placed_spec.PlacedValue → Bool) (low : ℕ) (xs : List placed_spec.PlacedValue) → AreOrdered low xs → AtLeast low (datagram_of (find test (filter keeps xs)))
 later_found test keeps low [] ordered = tt
 later_found test keeps low (x ∷ xs) (le, rest) = subst (λ o. AtLeast low (datagram_of o)) (sym (found_past test x (filter keeps xs) (keeps x))) (by (later_found test keeps x.datagram xs rest) (keeps x) (test x))
   where
@@ -259,28 +259,28 @@ later_found test keeps low (x ∷ xs) (le, rest) = subst (λ o. AtLeast low (dat
     by behind false t = lower (datagram_of (find test (filter keeps xs))) behind
 
 -- the first act by which a reader leaves is the first of two writers' first ones, where no other says so
-pub left_of_two : (one other reader : Guid) (place : Location) (placed : List PlacedValue) (low : ℕ) → AreOrdered low placed → ((act : ActValue) → leaves reader act ≡ true → is_one_of one other (origin_of act) ≡ true)
-    → lesser_of (datagram_of (find (leaves_behind place reader) (filter (is_from one) placed))) (datagram_of (find (leaves_behind place reader) (filter (is_from other) placed))) ≡ datagram_of (find (leaves_behind place reader) placed)
+pub left_of_two : (one other reader : Guid) (place : Location) (placed : List placed_spec.PlacedValue) (low : ℕ) → AreOrdered low placed → ((act : values.ActValue) → leaving.leaves reader act ≡ true → leaving.is_one_of one other (receiver_speech.origin_of act) ≡ true)
+    → spans.lesser_of (datagram_of (find (spans.leaves_behind place reader) (filter (placed_spec.is_from one) placed))) (datagram_of (find (spans.leaves_behind place reader) (filter (placed_spec.is_from other) placed))) ≡ datagram_of (find (spans.leaves_behind place reader) placed)
 left_of_two one other reader place [] low ordered who = refl
 left_of_two one other reader place (x ∷ xs) low (le, rest) who =
-    ap (λ o. lesser_of (datagram_of o) (datagram_of (find test (cond (is_from other x) (x ∷ filter (is_from other) xs) (filter (is_from other) xs))))) (found_past test x (filter (is_from one) xs) (is_from one x))
-    ∙ ap (λ o. lesser_of (datagram_of (cond (is_from one x) (cond (test x) (Some x) (find test (filter (is_from one) xs))) (find test (filter (is_from one) xs)))) (datagram_of o)) (found_past test x (filter (is_from other) xs) (is_from other x))
-    ∙ by (is_from one x) (is_from other x) (test x) (λ h. who x.act (and_parts (is_behind (Some place) x) (leaves reader x.act) h).1) (left_of_two one other reader place xs x.datagram rest who)
+    ap (λ o. spans.lesser_of (datagram_of o) (datagram_of (find test (cond (placed_spec.is_from other x) (x ∷ filter (placed_spec.is_from other) xs) (filter (placed_spec.is_from other) xs))))) (found_past test x (filter (placed_spec.is_from one) xs) (placed_spec.is_from one x))
+    ∙ ap (λ o. spans.lesser_of (datagram_of (cond (placed_spec.is_from one x) (cond (test x) (Some x) (find test (filter (placed_spec.is_from one) xs))) (find test (filter (placed_spec.is_from one) xs)))) (datagram_of o)) (found_past test x (filter (placed_spec.is_from other) xs) (placed_spec.is_from other x))
+    ∙ by (placed_spec.is_from one x) (placed_spec.is_from other x) (test x) (λ h. who x.act (and_parts (locations.is_behind (Some place) x) (leaving.leaves reader x.act) h).1) (left_of_two one other reader place xs x.datagram rest who)
   where
-    test : PlacedValue → Bool
-    test = leaves_behind place reader
+    test : placed_spec.PlacedValue → Bool
+    test = spans.leaves_behind place reader
 
-    here : Option PlacedValue
-    here = find test (filter (is_from one) xs)
+    here : Option placed_spec.PlacedValue
+    here = find test (filter (placed_spec.is_from one) xs)
 
-    there : Option PlacedValue
-    there = find test (filter (is_from other) xs)
+    there : Option placed_spec.PlacedValue
+    there = find test (filter (placed_spec.is_from other) xs)
 
-    by : (a b c : Bool) → (c ≡ true → (a || b) ≡ true) → lesser_of (datagram_of here) (datagram_of there) ≡ datagram_of (find test xs)
-        → lesser_of (datagram_of (cond a (cond c (Some x) here) here)) (datagram_of (cond b (cond c (Some x) there) there)) ≡ datagram_of (cond c (Some x) (find test xs))
+    by : (a b c : Bool) → (c ≡ true → (a || b) ≡ true) → spans.lesser_of (datagram_of here) (datagram_of there) ≡ datagram_of (find test xs)
+        → spans.lesser_of (datagram_of (cond a (cond c (Some x) here) here)) (datagram_of (cond b (cond c (Some x) there) there)) ≡ datagram_of (cond c (Some x) (find test xs))
     by true true true who h = lesser_left x.datagram (Some x.datagram) (omega arith)
-    by true false true who h = lesser_left x.datagram (datagram_of there) (later_found test (is_from other) x.datagram xs rest)
-    by false true true who h = lesser_right x.datagram (datagram_of here) (later_found test (is_from one) x.datagram xs rest)
+    by true false true who h = lesser_left x.datagram (datagram_of there) (later_found test (placed_spec.is_from other) x.datagram xs rest)
+    by false true true who h = lesser_right x.datagram (datagram_of here) (later_found test (placed_spec.is_from one) x.datagram xs rest)
     by false false true who h = absurd (let no : false ≡ true = who refl in cc)
     by true true false who h = h
     by true false false who h = h
@@ -289,8 +289,8 @@ left_of_two one other reader place (x ∷ xs) low (le, rest) who =
 
 -- ---- the first number that is for the reader
 
-pub for_reader : (pair : Pair) (place : Location) (placed : List PlacedValue) (owed : ℕ) (brought asked found : Option ℕ)
-    → IsLeastFrom (λ n. list_any (brings_behind (Some place) pair.writer pair.reader n) (filter (is_from pair.writer) placed)) owed brought
-    → IsLeastFrom (λ n. list_any (asks_for pair.writer pair.reader n) (filter (is_from pair.reader) placed)) owed asked
-    → found ≡ lesser_of brought asked → IsLeastFrom (is_for_reader place pair placed) owed found
+pub for_reader : (pair : Pair) (place : Location) (placed : List placed_spec.PlacedValue) (owed : ℕ) (brought asked found : Option ℕ)
+    → spans.IsLeastFrom (λ n. list_any (missed.brings_behind (Some place) pair.writer pair.reader n) (filter (placed_spec.is_from pair.writer) placed)) owed brought
+    → spans.IsLeastFrom (λ n. list_any (missed.asks_for pair.writer pair.reader n) (filter (placed_spec.is_from pair.reader) placed)) owed asked
+    → found ≡ spans.lesser_of brought asked → spans.IsLeastFrom (spans.is_for_reader place pair placed) owed found
 for_reader pair place placed owed brought asked found b a is = grind (arith, nat_tests, common_steps, least_either, least_same, brought_same, asked_same)

@@ -10,11 +10,11 @@ use Rattle.std.proofs.lemmas.List.{map-append}
 use Rattle.std.proofs.lemmas.List.Elements.{filter_map-append}
 use Rattle.std.proofs.lemmas.List.Folds.{find-append}
 use Rattle.rtps_discovery.specs.declared.matching.Pair.{Pair}
-use Rattle.rtps_audit.specs.Delivery.{greatest}
-use Rattle.rtps_audit.specs.Placed.{PlacedValue, is_from}
+use Rattle.rtps_audit.specs.Delivery as delivery
+use Rattle.rtps_audit.specs.Placed as placed
 use Rattle.rtps_audit.specs.declared.answer.Answer.{Answer}
 use Rattle.rtps_audit.proofs.Offered.{greatest-append, speaker_is_origin}
-use Rattle.rtps_evidence.specs.Waits.{HasPassed, answers_behind, length_of, longer_of, longest, precedes, questions_of, wait_from, waits_of}
+use Rattle.rtps_evidence.specs.Waits as waits_spec
 use Rattle.rtps_evidence.specs.declared.location.Location.{Location}
 use Rattle.rtps_evidence.specs.declared.waits.Wait.{Wait}
 use Rattle.rtps_evidence.proofs.QuestionLemmas.{filter_filter}
@@ -63,31 +63,31 @@ none_weaker one other h (x ∷ xs) none =
     let parts = none_then one x (find one xs) none in
     ap (λ b. cond b (Some x) (find other xs)) (h x parts.0) ∙ none_weaker one other h xs parts.1
 
-pub passed_none : (answers : List Answer) (place : Location) → HasPassed answers 0 place
-passed_none answers place = record { within = omega arith; none = none_first (answers_behind place) answers }
+pub passed_none : (answers : List Answer) (place : Location) → waits_spec.HasPassed answers 0 place
+passed_none answers place = record { within = omega arith; none = none_first (waits_spec.answers_behind place) answers }
 
 -- what stands behind no place does not stand behind a later one
-pub not_behind : (one other place : Location) → precedes other one ≡ false → precedes one place ≡ false → precedes other place ≡ false
+pub not_behind : (one other place : Location) → waits_spec.precedes other one ≡ false → waits_spec.precedes one place ≡ false → waits_spec.precedes other place ≡ false
 not_behind one other place late early = grind (arith, nat_tests)
 
-pub passed_on : (answers : List Answer) (passed : ℕ) (one other : Location) → precedes other one ≡ false → HasPassed answers passed one → HasPassed answers passed other
+pub passed_on : (answers : List Answer) (passed : ℕ) (one other : Location) → waits_spec.precedes other one ≡ false → waits_spec.HasPassed answers passed one → waits_spec.HasPassed answers passed other
 passed_on answers passed one other late has = grind (arith, nat_tests, common_steps, none_weaker, not_behind)
 
 -- ---- the longest wait, with one more
 
 -- none is so long, where all are shorter
-none_longer : (n : ℕ) (waits : List Wait) → greatest (map length_of waits) < n → find (λ wait. wait.nanoseconds == n) waits ≡ None
+none_longer : (n : ℕ) (waits : List Wait) → delivery.greatest (map waits_spec.length_of waits) < n → find (λ wait. wait.nanoseconds == n) waits ≡ None
 none_longer n [] lt = refl
 none_longer n (wait ∷ waits) lt =
     let differs : (wait.nanoseconds == n) ≡ false = grind (arith, nat_tests) in
     ap (λ b. cond b (Some wait) (find (λ one. one.nanoseconds == n) waits)) differs ∙ none_longer n waits (omega arith)
 
 -- one is as long as the greatest
-some_longest : (wait : Wait) (waits : List Wait) (n : ℕ) → n ≡ max wait.nanoseconds (greatest (map length_of waits)) → (one : Wait) × (find (λ w. w.nanoseconds == n) (wait ∷ waits) ≡ Some one) × (one.nanoseconds ≡ n)
+some_longest : (wait : Wait) (waits : List Wait) (n : ℕ) → n ≡ max wait.nanoseconds (delivery.greatest (map waits_spec.length_of waits)) → (one : Wait) × (find (λ w. w.nanoseconds == n) (wait ∷ waits) ≡ Some one) × (one.nanoseconds ≡ n)
 some_longest wait [] n is =
     let same : (wait.nanoseconds == n) ≡ true = grind (arith, nat_tests) in
     (wait, ap (λ b. cond b (Some wait) None) same, omega arith)
-some_longest wait (next ∷ waits) n is = elim (cases_lt wait.nanoseconds (greatest (map length_of (next ∷ waits)))) [
+some_longest wait (next ∷ waits) n is = elim (cases_lt wait.nanoseconds (delivery.greatest (map waits_spec.length_of (next ∷ waits)))) [
   | inl lt ↦
       let there = some_longest next waits n (omega arith) in
       let differs : (wait.nanoseconds == n) ≡ false = grind (arith, nat_tests) in
@@ -97,8 +97,8 @@ some_longest wait (next ∷ waits) n is = elim (cases_lt wait.nanoseconds (great
       (wait, ap (λ b. cond b (Some wait) (find (λ w. w.nanoseconds == n) (next ∷ waits))) same, omega arith)
 ]
 
-longer_then : (waits : List Wait) (one wait : Wait) (n : ℕ) → n ≡ greatest (map length_of waits) → find (λ w. w.nanoseconds == n) waits ≡ Some one → one.nanoseconds ≡ n
-    → find (λ w. w.nanoseconds == max n wait.nanoseconds) (waits ++ wait ∷ []) ≡ longer_of (Some one) (Some wait)
+longer_then : (waits : List Wait) (one wait : Wait) (n : ℕ) → n ≡ delivery.greatest (map waits_spec.length_of waits) → find (λ w. w.nanoseconds == n) waits ≡ Some one → one.nanoseconds ≡ n
+    → find (λ w. w.nanoseconds == max n wait.nanoseconds) (waits ++ wait ∷ []) ≡ waits_spec.longer_of (Some one) (Some wait)
 longer_then waits one wait n is found long =
     find-append (λ w. w.nanoseconds == max n wait.nanoseconds) waits (wait ∷ []) ∙ elim (cases_lt n wait.nanoseconds) [
       | inl lt ↦
@@ -117,26 +117,26 @@ longer_then waits one wait n is found long =
           ∙ sym (ap (λ b. cond b (Some wait) (Some one)) no_less)
     ]
 
-longest_push : (waits : List Wait) (wait : Wait) → longest (waits ++ wait ∷ []) ≡ longer_of (longest waits) (Some wait)
+longest_push : (waits : List Wait) (wait : Wait) → waits_spec.longest (waits ++ wait ∷ []) ≡ waits_spec.longer_of (waits_spec.longest waits) (Some wait)
 longest_push [] wait = let same : (wait.nanoseconds == max wait.nanoseconds 0) ≡ true = grind (arith, nat_tests) in ap (λ b. cond b (Some wait) None) same
 longest_push (one ∷ waits) wait =
-    let there = some_longest one waits (greatest (map length_of (one ∷ waits))) refl in
-    let top : greatest (map length_of ((one ∷ waits) ++ wait ∷ [])) ≡ max (greatest (map length_of (one ∷ waits))) (max wait.nanoseconds 0) =
-    ap greatest (map-append length_of (one ∷ waits) (wait ∷ [])) ∙ greatest-append (map length_of (one ∷ waits)) (wait.nanoseconds ∷ []) in
-    let greater : greatest (map length_of ((one ∷ waits) ++ wait ∷ [])) ≡ max (greatest (map length_of (one ∷ waits))) wait.nanoseconds = omega arith in
+    let there = some_longest one waits (delivery.greatest (map waits_spec.length_of (one ∷ waits))) refl in
+    let top : delivery.greatest (map waits_spec.length_of ((one ∷ waits) ++ wait ∷ [])) ≡ max (delivery.greatest (map waits_spec.length_of (one ∷ waits))) (max wait.nanoseconds 0) =
+    ap delivery.greatest (map-append waits_spec.length_of (one ∷ waits) (wait ∷ [])) ∙ greatest-append (map waits_spec.length_of (one ∷ waits)) (wait.nanoseconds ∷ []) in
+    let greater : delivery.greatest (map waits_spec.length_of ((one ∷ waits) ++ wait ∷ [])) ≡ max (delivery.greatest (map waits_spec.length_of (one ∷ waits))) wait.nanoseconds = omega arith in
     ap (λ n. find (λ w. w.nanoseconds == n) ((one ∷ waits) ++ wait ∷ [])) greater
-    ∙ longer_then (one ∷ waits) there.0 wait (greatest (map length_of (one ∷ waits))) refl there.1 there.2
-    ∙ sym (ap (λ o. longer_of o (Some wait)) there.1)
+    ∙ longer_then (one ∷ waits) there.0 wait (delivery.greatest (map waits_spec.length_of (one ∷ waits))) refl there.1 there.2
+    ∙ sym (ap (λ o. waits_spec.longer_of o (Some wait)) there.1)
 
-pub longest_more : (waits : List Wait) (wait : Option Wait) → longest (waits ++ cons_option wait []) ≡ longer_of (longest waits) wait
+pub longest_more : (waits : List Wait) (wait : Option Wait) → waits_spec.longest (waits ++ cons_option wait []) ≡ waits_spec.longer_of (waits_spec.longest waits) wait
 longest_more waits wait = grind (arith, nat_tests, common_steps, append-nil, longest_push)
 
-pub waits_more : (times : List (Option ℕ)) (end : Option ℕ) (answers : List Answer) (questions : List PlacedValue) (question : PlacedValue)
-    → longest (waits_of times end answers (questions ++ question ∷ [])) ≡ longer_of (longest (waits_of times end answers questions)) (wait_from times end answers question)
+pub waits_more : (times : List (Option ℕ)) (end : Option ℕ) (answers : List Answer) (questions : List placed.PlacedValue) (question : placed.PlacedValue)
+    → waits_spec.longest (waits_spec.waits_of times end answers (questions ++ question ∷ [])) ≡ waits_spec.longer_of (waits_spec.longest (waits_spec.waits_of times end answers questions)) (waits_spec.wait_from times end answers question)
 waits_more times end answers questions question = grind (arith, nat_tests, common_steps, filter_map-append, longest_more)
 
 -- ---- the questions, one after another
 
 -- those of the writer's acts are those of all acts
-pub questions_same : (since : Option Location) (pair : Pair) (acts : List PlacedValue) → questions_of since pair (filter (is_from pair.writer) acts) ≡ questions_of since pair acts
+pub questions_same : (since : Option Location) (pair : Pair) (acts : List placed.PlacedValue) → waits_spec.questions_of since pair (filter (placed.is_from pair.writer) acts) ≡ waits_spec.questions_of since pair acts
 questions_same since pair acts = grind (arith, nat_tests, common_steps, filter_filter, speaker_is_origin, and_parts)

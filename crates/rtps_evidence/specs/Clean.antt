@@ -3,15 +3,13 @@
 -- whatever the reader says of it, and what only looks received did not.
 use Rattle.std.specs.Prelude.{ℕ, Bool, true, false, ◌+◌, ◌-◌, ◌≡◌, ◌≤◌, ◌<◌, ◌⊎◌, ◌↔◌, ◌==◌, ◌&&◌, ◌||◌, nat_le, nat_lt, not, List, Option}
 use Rattle.rtps_discovery.specs.declared.matching.Pair.{Pair}
-use Rattle.rtps_audit.specs.Placed.{PlacedValue}
+use Rattle.rtps_audit.specs.Placed as placed
 use Rattle.rtps_audit.specs.declared.verdict.Verdict.{Verdict}
-use Rattle.rtps_audit.specs.declared.verdict.Verdict.TheVariants.{Unfounded, Conflict, Open, Complete}
-use Rattle.rtps_coverage.specs.Counts.{count_in}
-use Rattle.rtps_evidence.specs.Locations.{greatest_base}
-use Rattle.rtps_evidence.specs.Outcomes.{AreOutcomes, outcome_of}
+use Rattle.rtps_coverage.specs.Counts as counts
+use Rattle.rtps_evidence.specs.Locations as locations
+use Rattle.rtps_evidence.specs.Outcomes as outcomes_spec
 use Rattle.rtps_evidence.specs.declared.location.Location.{Location}
 use Rattle.rtps_evidence.specs.declared.outcome.Outcome.{Outcome}
-use Rattle.rtps_evidence.specs.declared.outcome.Outcome.TheVariants.{Received, Arrived, Likely, Unconfirmed}
 use Rattle.rtps_evidence.specs.declared.outcome.Outcomes.{Outcomes}
 
 -- no number is lost, or looks so
@@ -24,17 +22,17 @@ loses_none held outcomes = has_all outcomes && (not held || (outcomes.likely == 
 
 -- each number that is asked about is acknowledged
 abbrev pub is_complete : Verdict → Bool
-is_complete (Complete last) = true
-is_complete (Open number) = false
-is_complete (Conflict number) = false
-is_complete (Unfounded datagram number) = false
+is_complete (Verdict.Complete last) = true
+is_complete (Verdict.Open number) = false
+is_complete (Verdict.Conflict number) = false
+is_complete (Verdict.Unfounded datagram number) = false
 
 -- some number is not
 abbrev pub is_open : Verdict → Bool
-is_open (Open number) = true
-is_open (Complete last) = false
-is_open (Conflict number) = false
-is_open (Unfounded datagram number) = false
+is_open (Verdict.Open number) = true
+is_open (Verdict.Complete last) = false
+is_open (Verdict.Conflict number) = false
+is_open (Verdict.Unfounded datagram number) = false
 
 -- the reader acknowledged something, and all that stands before the row
 abbrev pub is_begun : ℕ → ℕ → Bool
@@ -57,35 +55,35 @@ is_clean tail left held verdict outcomes from base =
 
 -- what a number of a tail is below the greatest base: received, or arrived where the pair is held, else likely
 abbrev pub IsBelowBase : Bool → Outcome → Type 0
-IsBelowBase true outcome = (outcome ≡ Received) ⊎ (outcome ≡ Arrived)
-IsBelowBase false outcome = (outcome ≡ Received) ⊎ (outcome ≡ Likely)
+IsBelowBase true outcome = (outcome ≡ Outcome.Received) ⊎ (outcome ≡ Outcome.Arrived)
+IsBelowBase false outcome = (outcome ≡ Outcome.Received) ⊎ (outcome ≡ Outcome.Likely)
 
 -- what it is from there on: unconfirmed, or arrived where the pair is held
 abbrev pub IsPastBase : Bool → Outcome → Type 0
-IsPastBase true outcome = (outcome ≡ Arrived) ⊎ (outcome ≡ Unconfirmed)
-IsPastBase false outcome = outcome ≡ Unconfirmed
+IsPastBase true outcome = (outcome ≡ Outcome.Arrived) ⊎ (outcome ≡ Outcome.Unconfirmed)
+IsPastBase false outcome = outcome ≡ Outcome.Unconfirmed
 
 -- a tail in the words of its numbers
-pub record IsTail (held : Bool) (there : ℕ → Bool) (from last : ℕ) (times : List (Option ℕ)) (since : Option Location) (pair : Pair) (acts : List PlacedValue) : Type 0 where
-  pub acknowledged : 1 < greatest_base pair.writer pair.reader acts
-  pub onward : from ≤ greatest_base pair.writer pair.reader acts
-  pub below : (n : ℕ) → from ≤ n → n ≤ last → n < greatest_base pair.writer pair.reader acts → IsBelowBase held (outcome_of there times since pair acts n)
-  pub others : (n : ℕ) → from ≤ n → n ≤ last → greatest_base pair.writer pair.reader acts ≤ n → IsPastBase held (outcome_of there times since pair acts n)
+pub record IsTail (held : Bool) (there : ℕ → Bool) (from last : ℕ) (times : List (Option ℕ)) (since : Option Location) (pair : Pair) (acts : List placed.PlacedValue) : Type 0 where
+  pub acknowledged : 1 < locations.greatest_base pair.writer pair.reader acts
+  pub onward : from ≤ locations.greatest_base pair.writer pair.reader acts
+  pub below : (n : ℕ) → from ≤ n → n ≤ last → n < locations.greatest_base pair.writer pair.reader acts → IsBelowBase held (outcomes_spec.outcome_of there times since pair acts n)
+  pub others : (n : ℕ) → from ≤ n → n ≤ last → locations.greatest_base pair.writer pair.reader acts ≤ n → IsPastBase held (outcomes_spec.outcome_of there times since pair acts n)
 
 -- Of an open row, by the greatest base of the reader's answers: it lacks a tail by its counts exactly where it does by its numbers, and
 -- then the unconfirmed numbers are those from that base on; of a pair that is held, those of them that are not there. Of such a pair
 -- nothing is lacking by the counts exactly where each number is received or arrived.
-pub record IsTailByCounts (held : Bool) (there : ℕ → Bool) (from last : ℕ) (times : List (Option ℕ)) (since : Option Location) (pair : Pair) (acts : List PlacedValue) (outcomes : Outcomes) : Type 0 where
-  pub tail : (verdict : Verdict) → is_open verdict ≡ true → (is_tail held verdict outcomes from (greatest_base pair.writer pair.reader acts) ≡ true) ↔ IsTail held there from last times since pair acts
-  pub unconfirmed : held ≡ false → IsTail held there from last times since pair acts → outcomes.unconfirmed ≡ last + 1 - greatest_base pair.writer pair.reader acts
+pub record IsTailByCounts (held : Bool) (there : ℕ → Bool) (from last : ℕ) (times : List (Option ℕ)) (since : Option Location) (pair : Pair) (acts : List placed.PlacedValue) (outcomes : Outcomes) : Type 0 where
+  pub tail : (verdict : Verdict) → is_open verdict ≡ true → (is_tail held verdict outcomes from (locations.greatest_base pair.writer pair.reader acts) ≡ true) ↔ IsTail held there from last times since pair acts
+  pub unconfirmed : held ≡ false → IsTail held there from last times since pair acts → outcomes.unconfirmed ≡ last + 1 - locations.greatest_base pair.writer pair.reader acts
   pub not_there : held ≡ true → IsTail held there from last times since pair acts
-      → outcomes.unconfirmed ≡ count_in (λ n. not (there n)) (greatest_base pair.writer pair.reader acts) (last + 1)
+      → outcomes.unconfirmed ≡ counts.count_in (λ n. not (there n)) (locations.greatest_base pair.writer pair.reader acts) (last + 1)
   pub whole : (verdict : Verdict) → held ≡ true → is_open verdict ≡ true
-      → (is_whole held verdict outcomes ≡ true) ↔ ((n : ℕ) → from ≤ n → n ≤ last → IsBelowBase true (outcome_of there times since pair acts n))
+      → (is_whole held verdict outcomes ≡ true) ↔ ((n : ℕ) → from ≤ n → n ≤ last → IsBelowBase true (outcomes_spec.outcome_of there times since pair acts n))
 
 -- the rule by counts is the rule by numbers. Where a pair is not held, no number is there
 abbrev pub CountsSayTail : Type 0
 CountsSayTail =
-    (held : Bool) (there : ℕ → Bool) (from last : ℕ) (times : List (Option ℕ)) (since : Option Location) (pair : Pair) (acts : List PlacedValue) (outcomes : Outcomes)
-    → (held ≡ false → (n : ℕ) → there n ≡ false) → AreOutcomes there from last times since pair acts outcomes
+    (held : Bool) (there : ℕ → Bool) (from last : ℕ) (times : List (Option ℕ)) (since : Option Location) (pair : Pair) (acts : List placed.PlacedValue) (outcomes : Outcomes)
+    → (held ≡ false → (n : ℕ) → there n ≡ false) → outcomes_spec.AreOutcomes there from last times since pair acts outcomes
     → IsTailByCounts held there from last times since pair acts outcomes

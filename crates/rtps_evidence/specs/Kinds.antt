@@ -5,25 +5,24 @@ use Rattle.std.specs.Prelude.{ℕ, Bool, true, false, ⊤, ◌≡◌, ◌+◌, �
 use Rattle.std.specs.List.{find}
 use Rattle.std.specs.Option.{option_map}
 use Rattle.rtps_discovery.specs.declared.matching.Pair.{Pair}
-use Rattle.rtps_audit.specs.Delivery.{last_announced_from}
-use Rattle.rtps_audit.specs.Placed.{PlacedValue, placed_in}
-use Rattle.rtps_audit.specs.Speech.{speech_by}
-use Rattle.rtps_receiver.specs.Values.{ActValue}
-use Rattle.rtps_coverage.specs.Stretches.{stretches_have}
+use Rattle.rtps_audit.specs.Delivery as delivery
+use Rattle.rtps_audit.specs.Placed as placed
+use Rattle.rtps_audit.specs.Speech as speech
+use Rattle.rtps_receiver.specs.Values as values
+use Rattle.rtps_coverage.specs.Stretches as stretches
 use Rattle.rtps_coverage.specs.declared.stretch.Stretch.{Stretch}
-use Rattle.rtps_evidence.specs.Locations.{location_of}
-use Rattle.rtps_evidence.specs.Missed.{brings}
-use Rattle.rtps_evidence.specs.OtherSide.{Beside, is_held, is_there}
-use Rattle.rtps_evidence.specs.Outcomes.{is_outcome, outcome_of}
-use Rattle.rtps_evidence.specs.Received.{is_received}
-use Rattle.rtps_evidence.specs.Spans.{since_of}
-use Rattle.rtps_evidence.specs.Waits.{precedes}
+use Rattle.rtps_evidence.specs.Locations as locations
+use Rattle.rtps_evidence.specs.Missed as missed
+use Rattle.rtps_evidence.specs.OtherSide as other_side
+use Rattle.rtps_evidence.specs.Outcomes as outcomes
+use Rattle.rtps_evidence.specs.Received as received
+use Rattle.rtps_evidence.specs.Spans as spans
+use Rattle.rtps_evidence.specs.Waits as waits
 use Rattle.rtps_evidence.specs.declared.kinds.KindNumbers.{KindNumbers}
 use Rattle.rtps_evidence.specs.declared.kinds.LostNumbers.{LostNumbers}
 use Rattle.rtps_evidence.specs.declared.kinds.NumberRange.{NumberRange}
 use Rattle.rtps_evidence.specs.declared.location.Location.{Location}
 use Rattle.rtps_evidence.specs.declared.outcome.Outcome.{Outcome}
-use Rattle.rtps_evidence.specs.declared.outcome.Outcome.TheVariants.{Missed, Unsent, Unanswered}
 use Rattle.rtps_evidence.specs.declared.sendings.SentSpan.{SentSpan}
 use Rattle.rtps_evidence.specs.declared.span.Span.{Span}
 
@@ -37,16 +36,16 @@ AreApart lo (run ∷ runs) = (lo ≤ run.lo) × (run.lo < run.hi) × AreApart (r
 -- the runs are exactly the numbers from lo on and below hi that have it
 pub record AreRunsOf (has : ℕ → Bool) (lo hi : ℕ) (runs : List Stretch) : Type 0 where
   pub apart : AreApart lo runs
-  pub exact : (n : ℕ) → stretches_have runs n ≡ ((nat_le lo n && nat_lt n hi) && has n)
+  pub exact : (n : ℕ) → stretches.stretches_have runs n ≡ ((nat_le lo n && nat_lt n hi) && has n)
 
 -- ---- ranges
 
 -- where the first act stands that brings the reader n, if one does
-abbrev pub first_brought : Pair → List PlacedValue → ℕ → Option Location
-first_brought pair acts n = option_map location_of (find (brings pair.writer pair.reader n) acts)
+abbrev pub first_brought : Pair → List placed.PlacedValue → ℕ → Option Location
+first_brought pair acts n = option_map locations.location_of (find (missed.brings pair.writer pair.reader n) acts)
 
 -- a run as a range, with the place of the first act that brings its first number
-abbrev pub range_of : Pair → List PlacedValue → Stretch → NumberRange
+abbrev pub range_of : Pair → List placed.PlacedValue → Stretch → NumberRange
 range_of pair acts run = record { first = run.lo; last = run.hi - 1; sent = first_brought pair acts run.lo }
 
 -- ranges, and how many more there are
@@ -55,11 +54,11 @@ pub record KindValue : Type 0 where
   pub more : ℕ
 
 -- the first thousand of these runs, and how many more there are
-abbrev pub kept_ranges : Pair → List PlacedValue → List Stretch → KindValue
+abbrev pub kept_ranges : Pair → List placed.PlacedValue → List Stretch → KindValue
 kept_ranges pair acts runs = record { ranges = map (range_of pair acts) (take 1000 runs); more = length runs - 1000 }
 
 -- the numbers from `from` on, up to the last one, that have it, as ranges
-pub record AreRangesOf (has : ℕ → Bool) (from last : ℕ) (pair : Pair) (acts : List PlacedValue) (found : KindValue) : Type 0 where
+pub record AreRangesOf (has : ℕ → Bool) (from last : ℕ) (pair : Pair) (acts : List placed.PlacedValue) (found : KindValue) : Type 0 where
   pub runs : List Stretch
   pub are_runs : AreRunsOf has from (last + 1) runs
   pub is_value : found ≡ kept_ranges pair acts runs
@@ -80,8 +79,8 @@ pub record IsSentAt (has : ℕ → Bool) (sent : ℕ → Option Location) (place
 pub record IsSentSpan (has : ℕ → Bool) (sent : ℕ → Option Location) (span : SentSpan) : Type 0 where
   pub first : IsSentAt has sent span.first
   pub last : IsSentAt has sent span.last
-  pub least : (place : Location) → IsSentAt has sent place → precedes place span.first ≡ false
-  pub greatest : (place : Location) → IsSentAt has sent place → precedes span.last place ≡ false
+  pub least : (place : Location) → IsSentAt has sent place → waits.precedes place span.first ≡ false
+  pub greatest : (place : Location) → IsSentAt has sent place → waits.precedes span.last place ≡ false
 
 -- the same, where some number that has it is sent; nothing, where none is
 abbrev pub IsSentIn : (ℕ → Bool) → (ℕ → Option Location) → Option SentSpan → Type 0
@@ -118,34 +117,34 @@ abbrev pub none_lost : LostValue
 none_lost = record { missed = no_ranges; unsent = no_ranges; unanswered = no_ranges; not_arrived = no_ranges; sent = None }
 
 -- of a pair that is held against another recording, n is neither received nor there
-abbrev pub is_lacking : Bool → (ℕ → Bool) → Pair → List PlacedValue → ℕ → Bool
-is_lacking held there pair acts n = held && (not (is_received pair.writer pair.reader acts n) && not (there n))
+abbrev pub is_lacking : Bool → (ℕ → Bool) → Pair → List placed.PlacedValue → ℕ → Bool
+is_lacking held there pair acts n = held && (not (received.is_received pair.writer pair.reader acts n) && not (there n))
 
 -- n has this outcome
-abbrev pub has_outcome : Outcome → (ℕ → Bool) → List (Option ℕ) → Option Location → Pair → List PlacedValue → ℕ → Bool
-has_outcome outcome there times since pair acts n = is_outcome outcome (outcome_of there times since pair acts n)
+abbrev pub has_outcome : Outcome → (ℕ → Bool) → List (Option ℕ) → Option Location → Pair → List placed.PlacedValue → ℕ → Bool
+has_outcome outcome there times since pair acts n = outcomes.is_outcome outcome (outcomes.outcome_of there times since pair acts n)
 
 -- of the numbers from `from` on, up to the last one, n is lost, or looks so, by its outcome, or did not arrive
-abbrev pub is_lost : Bool → (ℕ → Bool) → ℕ → ℕ → List (Option ℕ) → Option Location → Pair → List PlacedValue → ℕ → Bool
+abbrev pub is_lost : Bool → (ℕ → Bool) → ℕ → ℕ → List (Option ℕ) → Option Location → Pair → List placed.PlacedValue → ℕ → Bool
 is_lost held there from last times since pair acts n =
     (nat_le from n && nat_lt n (last + 1))
-    && (has_outcome Missed there times since pair acts n
-    || (has_outcome Unsent there times since pair acts n
-    || (has_outcome Unanswered there times since pair acts n || is_lacking held there pair acts n)))
+    && (has_outcome Outcome.Missed there times since pair acts n
+    || (has_outcome Outcome.Unsent there times since pair acts n
+    || (has_outcome Outcome.Unanswered there times since pair acts n || is_lacking held there pair acts n)))
 
 -- of the numbers from `from` on, up to the last one: those that are lost, or look so, by their outcomes, and those that did not arrive
-pub record AreLost (held : Bool) (there : ℕ → Bool) (from last : ℕ) (times : List (Option ℕ)) (since : Option Location) (pair : Pair) (acts : List PlacedValue) (lost : LostValue) : Type 0 where
-  pub missed : AreRangesOf (has_outcome Missed there times since pair acts) from last pair acts lost.missed
-  pub unsent : AreRangesOf (has_outcome Unsent there times since pair acts) from last pair acts lost.unsent
-  pub unanswered : AreRangesOf (has_outcome Unanswered there times since pair acts) from last pair acts lost.unanswered
+pub record AreLost (held : Bool) (there : ℕ → Bool) (from last : ℕ) (times : List (Option ℕ)) (since : Option Location) (pair : Pair) (acts : List placed.PlacedValue) (lost : LostValue) : Type 0 where
+  pub missed : AreRangesOf (has_outcome Outcome.Missed there times since pair acts) from last pair acts lost.missed
+  pub unsent : AreRangesOf (has_outcome Outcome.Unsent there times since pair acts) from last pair acts lost.unsent
+  pub unanswered : AreRangesOf (has_outcome Outcome.Unanswered there times since pair acts) from last pair acts lost.unanswered
   pub not_arrived : AreRangesOf (is_lacking held there pair acts) from last pair acts lost.not_arrived
   pub sent : IsSentIn (is_lost held there from last times since pair acts) (first_brought pair acts) lost.sent
 
 -- those of a row, where rows are in spans; none, where they are not. The row is by acts of all that the recording has
-abbrev pub IsLostIn : Bool → Beside → Span → Pair → List (List ActValue) → List (List ActValue) → LostValue → Type 0
+abbrev pub IsLostIn : Bool → other_side.Beside → Span → Pair → List (List values.ActValue) → List (List values.ActValue) → LostValue → Type 0
 IsLostIn true beside own pair all recording lost =
-    AreLost (is_held all beside.other pair) (is_there all beside.other pair) own.from (last_announced_from own.from (speech_by pair.writer pair.reader recording))
-    beside.times (since_of own) pair (placed_in recording) lost
+    AreLost (other_side.is_held all beside.other pair) (other_side.is_there all beside.other pair) own.from (delivery.last_announced_from own.from (speech.speech_by pair.writer pair.reader recording))
+    beside.times (spans.since_of own) pair (placed.placed_in recording) lost
 IsLostIn false beside own pair all recording lost = lost ≡ none_lost
 
 -- ---- laws

@@ -7,42 +7,40 @@
 use Rattle.std.specs.Prelude.{ℕ, Bool, true, false, ◌+◌, ◌-◌, ◌≡◌, ◌==◌, ◌&&◌, ◌||◌, nat_le, nat_lt, not, if◌then◌else◌, filter, is_some, List, [], ◌∷◌, Option}
 use Rattle.std.specs.List.{list_any}
 use Rattle.rtps_discovery.specs.declared.matching.Pair.{Pair}
-use Rattle.rtps_receiver.specs.Values.{ActBodyValue, ActValue}
-use Rattle.rtps_receiver.specs.Values.ActBodyValue.{Data, Heartbeat, AckNack, Gap, DataFrag, NackFrag}
-use Rattle.rtps_audit.specs.Delivery.{DeliveryState, Ends}
-use Rattle.rtps_audit.specs.Placed.{PlacedValue, answers_among, is_from, placed_in}
-use Rattle.rtps_receiver.specs.Said.{natural}
-use Rattle.rtps_audit.specs.Speech.{speech_by}
+use Rattle.rtps_receiver.specs.Values as values
+use Rattle.rtps_audit.specs.Delivery as delivery
+use Rattle.rtps_audit.specs.Placed as placed
+use Rattle.rtps_receiver.specs.Said as said
+use Rattle.rtps_audit.specs.Speech as speech
 use Rattle.rtps_audit.specs.declared.answer.Answer.{Answer}
-use Rattle.rtps_coverage.specs.Counts.{count_in}
-use Rattle.rtps_evidence.specs.Amount.{is_sent}
-use Rattle.rtps_evidence.specs.FirstNumbers.{first_ten}
-use Rattle.rtps_evidence.specs.Locations.{location_of}
-use Rattle.rtps_evidence.specs.Missed.{brings_behind, is_excused, is_wanting}
-use Rattle.rtps_evidence.specs.Questions.{questions_behind}
-use Rattle.rtps_evidence.specs.Received.{HoldsPayload, first_claiming, is_received, withdraws}
-use Rattle.rtps_evidence.specs.Times.{is_long_between}
+use Rattle.rtps_coverage.specs.Counts as counts
+use Rattle.rtps_evidence.specs.Amount as amount
+use Rattle.rtps_evidence.specs.FirstNumbers as first_numbers
+use Rattle.rtps_evidence.specs.Locations as locations
+use Rattle.rtps_evidence.specs.Missed as missed
+use Rattle.rtps_evidence.specs.Questions as questions
+use Rattle.rtps_evidence.specs.Received as received_spec
+use Rattle.rtps_evidence.specs.Times as times_spec
 use Rattle.rtps_evidence.specs.declared.location.Location.{Location}
 use Rattle.rtps_evidence.specs.declared.outcome.Outcome.{Outcome}
-use Rattle.rtps_evidence.specs.declared.outcome.Outcome.TheVariants.{Received, Arrived, Missed, Unsent, Unanswered, Likely, Unconfirmed}
 use Rattle.rtps_evidence.specs.declared.outcome.Outcomes.{Outcomes}
 
 -- ---- unsent
 
 -- the reader hears n, or a fragment of it, since it is there
-abbrev pub is_brought : Option Location → Pair → List PlacedValue → ℕ → Bool
-is_brought since pair acts n = list_any (brings_behind since pair.writer pair.reader n) acts
+abbrev pub is_brought : Option Location → Pair → List placed.PlacedValue → ℕ → Bool
+is_brought since pair acts n = list_any (missed.brings_behind since pair.writer pair.reader n) acts
 
 -- ---- unanswered: asked about again and again while the writer had it, and no answer for 100 ms, until it was told gone
 
 -- a HEARTBEAT says that the writer has n
-abbrev pub is_offered : ActBodyValue → ℕ → Bool
-is_offered (Heartbeat value) n = nat_le value.first n && nat_le n (natural value.last)
-is_offered (Data value) n = false
-is_offered (AckNack value) n = false
-is_offered (Gap value) n = false
-is_offered (DataFrag value) n = false
-is_offered (NackFrag value) n = false
+abbrev pub is_offered : values.ActBodyValue → ℕ → Bool
+is_offered (values.ActBodyValue.Heartbeat value) n = nat_le value.first n && nat_le n (said.natural value.last)
+is_offered (values.ActBodyValue.Data value) n = false
+is_offered (values.ActBodyValue.AckNack value) n = false
+is_offered (values.ActBodyValue.Gap value) n = false
+is_offered (values.ActBodyValue.DataFrag value) n = false
+is_offered (values.ActBodyValue.NackFrag value) n = false
 
 -- how far it came with a number, as the acts go by
 pub data Silence : Type 0 where
@@ -82,16 +80,16 @@ asked_about datagram Ended = Ended
 abbrev pub told_gone : List (Option ℕ) → ℕ → Silence → Silence
 told_gone times datagram Unasked = Ended
 told_gone times datagram (Once asked) = Ended
-told_gone times datagram (Again asked) = if is_long_between times asked datagram then Silent else Ended
+told_gone times datagram (Again asked) = if times_spec.is_long_between times asked datagram then Silent else Ended
 told_gone times datagram Answered = Ended
 told_gone times datagram Silent = Silent
 told_gone times datagram Ended = Ended
 
 -- behind an act of the writer
-abbrev pub heard : List (Option ℕ) → Option Location → Pair → ℕ → PlacedValue → Silence → Silence
+abbrev pub heard : List (Option ℕ) → Option Location → Pair → ℕ → placed.PlacedValue → Silence → Silence
 heard times since pair n placed silence =
-    if withdraws pair.writer pair.reader n placed then told_gone times placed.datagram silence
-    else if questions_behind since pair.writer pair.reader placed && is_offered placed.act.body n then asked_about placed.datagram silence
+    if received_spec.withdraws pair.writer pair.reader n placed then told_gone times placed.datagram silence
+    else if questions.questions_behind since pair.writer pair.reader placed && is_offered placed.act.body n then asked_about placed.datagram silence
     else silence
 
 -- an answer stands before a place
@@ -114,15 +112,15 @@ pub record Walk : Type 0 where
   pub silence : Silence
 
 -- behind one act of the writer more, and the answers before it
-abbrev pub walked : List (Option ℕ) → Option Location → Pair → ℕ → Walk → PlacedValue → Walk
+abbrev pub walked : List (Option ℕ) → Option Location → Pair → ℕ → Walk → placed.PlacedValue → Walk
 walked times since pair n walk placed =
     record {
-      answers = answers_left (location_of placed) walk.answers;
-      silence = heard times since pair n placed (if is_answered (location_of placed) walk.answers then answered walk.silence else walk.silence);
+      answers = answers_left (locations.location_of placed) walk.answers;
+      silence = heard times since pair n placed (if is_answered (locations.location_of placed) walk.answers then answered walk.silence else walk.silence);
     }
 
 -- behind these acts of the writer, one after another
-abbrev pub walked_all : List (Option ℕ) → Option Location → Pair → ℕ → Walk → List PlacedValue → Walk
+abbrev pub walked_all : List (Option ℕ) → Option Location → Pair → ℕ → Walk → List placed.PlacedValue → Walk
 walked_all times since pair n walk [] = walk
 walked_all times since pair n walk (placed ∷ acts) = walked_all times since pair n (walked times since pair n walk placed) acts
 
@@ -136,61 +134,61 @@ is_silent Answered = false
 is_silent Ended = false
 
 -- the writer's acts and the reader's answers, one after another, end in silence
-abbrev pub is_unanswered : List (Option ℕ) → Option Location → Pair → List PlacedValue → ℕ → Bool
+abbrev pub is_unanswered : List (Option ℕ) → Option Location → Pair → List placed.PlacedValue → ℕ → Bool
 is_unanswered times since pair acts n =
-    is_silent (walked_all times since pair n (record { answers = answers_among pair acts; silence = Unasked }) (filter (is_from pair.writer) acts)).silence
+    is_silent (walked_all times since pair n (record { answers = placed.answers_among pair acts; silence = Unasked }) (filter (placed.is_from pair.writer) acts)).silence
 
 -- ---- each number has one outcome
 
 -- what became of a number: the first that fits
-unfoldable pub outcome_of : (ℕ → Bool) → List (Option ℕ) → Option Location → Pair → List PlacedValue → ℕ → Outcome
+unfoldable pub outcome_of : (ℕ → Bool) → List (Option ℕ) → Option Location → Pair → List placed.PlacedValue → ℕ → Outcome
 outcome_of there times since pair acts n =
-    if is_received pair.writer pair.reader acts n then Received
-    else if there n then Arrived
-    else if is_wanting since pair.writer pair.reader acts n then (if is_excused pair.writer pair.reader acts n then Likely else Missed)
-    else if not (is_brought since pair acts n) then Unsent
-    else if is_unanswered times since pair acts n then Unanswered
-    else if is_some (first_claiming pair.writer pair.reader n acts) then Likely
-    else Unconfirmed
+    if received_spec.is_received pair.writer pair.reader acts n then Outcome.Received
+    else if there n then Outcome.Arrived
+    else if missed.is_wanting since pair.writer pair.reader acts n then (if missed.is_excused pair.writer pair.reader acts n then Outcome.Likely else Outcome.Missed)
+    else if not (is_brought since pair acts n) then Outcome.Unsent
+    else if is_unanswered times since pair acts n then Outcome.Unanswered
+    else if is_some (received_spec.first_claiming pair.writer pair.reader n acts) then Outcome.Likely
+    else Outcome.Unconfirmed
 
 -- two outcomes are the same
 abbrev pub is_outcome : Outcome → Outcome → Bool
-is_outcome Received Received = true
-is_outcome Arrived Arrived = true
-is_outcome Missed Missed = true
-is_outcome Unsent Unsent = true
-is_outcome Unanswered Unanswered = true
-is_outcome Likely Likely = true
-is_outcome Unconfirmed Unconfirmed = true
+is_outcome Outcome.Received Outcome.Received = true
+is_outcome Outcome.Arrived Outcome.Arrived = true
+is_outcome Outcome.Missed Outcome.Missed = true
+is_outcome Outcome.Unsent Outcome.Unsent = true
+is_outcome Outcome.Unanswered Outcome.Unanswered = true
+is_outcome Outcome.Likely Outcome.Likely = true
+is_outcome Outcome.Unconfirmed Outcome.Unconfirmed = true
 is_outcome _ _ = false
 
 -- how many of the numbers from lo on and below hi have this outcome
 abbrev pub count_of : Outcome → (ℕ → Outcome) → ℕ → ℕ → ℕ
-count_of outcome outcomes lo hi = count_in (λ n. is_outcome outcome (outcomes n)) lo hi
+count_of outcome outcomes lo hi = counts.count_in (λ n. is_outcome outcome (outcomes n)) lo hi
 
 -- of the numbers from `from` on, up to the last one: how many have each outcome
-pub record AreOutcomes (there : ℕ → Bool) (from last : ℕ) (times : List (Option ℕ)) (since : Option Location) (pair : Pair) (acts : List PlacedValue) (outcomes : Outcomes) : Type 0 where
-  pub received : outcomes.received ≡ count_of Received (outcome_of there times since pair acts) from (last + 1)
-  pub arrived : outcomes.arrived ≡ count_of Arrived (outcome_of there times since pair acts) from (last + 1)
-  pub missed : outcomes.missed ≡ count_of Missed (outcome_of there times since pair acts) from (last + 1)
-  pub unsent : outcomes.unsent ≡ count_of Unsent (outcome_of there times since pair acts) from (last + 1)
-  pub unanswered : outcomes.unanswered ≡ count_of Unanswered (outcome_of there times since pair acts) from (last + 1)
-  pub likely : outcomes.likely ≡ count_of Likely (outcome_of there times since pair acts) from (last + 1)
-  pub unconfirmed : outcomes.unconfirmed ≡ count_of Unconfirmed (outcome_of there times since pair acts) from (last + 1)
+pub record AreOutcomes (there : ℕ → Bool) (from last : ℕ) (times : List (Option ℕ)) (since : Option Location) (pair : Pair) (acts : List placed.PlacedValue) (outcomes : Outcomes) : Type 0 where
+  pub received : outcomes.received ≡ count_of Outcome.Received (outcome_of there times since pair acts) from (last + 1)
+  pub arrived : outcomes.arrived ≡ count_of Outcome.Arrived (outcome_of there times since pair acts) from (last + 1)
+  pub missed : outcomes.missed ≡ count_of Outcome.Missed (outcome_of there times since pair acts) from (last + 1)
+  pub unsent : outcomes.unsent ≡ count_of Outcome.Unsent (outcome_of there times since pair acts) from (last + 1)
+  pub unanswered : outcomes.unanswered ≡ count_of Outcome.Unanswered (outcome_of there times since pair acts) from (last + 1)
+  pub likely : outcomes.likely ≡ count_of Outcome.Likely (outcome_of there times since pair acts) from (last + 1)
+  pub unconfirmed : outcomes.unconfirmed ≡ count_of Outcome.Unconfirmed (outcome_of there times since pair acts) from (last + 1)
 
 -- how many they are together
 abbrev pub all_of : Outcomes → ℕ
 all_of outcomes = outcomes.received + outcomes.arrived + outcomes.missed + outcomes.unsent + outcomes.unanswered + outcomes.likely + outcomes.unconfirmed
 
 -- of a pair that is held against another recording: how many of these numbers are received though they are not there
-abbrev pub absent_of : Bool → (ℕ → Bool) → ℕ → ℕ → Pair → List PlacedValue → ℕ
+abbrev pub absent_of : Bool → (ℕ → Bool) → ℕ → ℕ → Pair → List placed.PlacedValue → ℕ
 absent_of held there from last pair acts =
-    if held then count_in (λ n. is_received pair.writer pair.reader acts n && not (there n)) from (last + 1) else 0
+    if held then counts.count_in (λ n. received_spec.is_received pair.writer pair.reader acts n && not (there n)) from (last + 1) else 0
 
 -- of a pair that is held against another recording: the first ten of these numbers that are neither received nor there
-abbrev pub lacking_of : Bool → (ℕ → Bool) → ℕ → ℕ → Pair → List PlacedValue → List ℕ
+abbrev pub lacking_of : Bool → (ℕ → Bool) → ℕ → ℕ → Pair → List placed.PlacedValue → List ℕ
 lacking_of held there from last pair acts =
-    if held then first_ten (λ n. not (is_received pair.writer pair.reader acts n) && not (there n)) from (last + 1) else []
+    if held then first_numbers.first_ten (λ n. not (received_spec.is_received pair.writer pair.reader acts n) && not (there n)) from (last + 1) else []
 
 -- no number is there: there is no other recording, or the pair is not held against it
 abbrev pub nowhere : ℕ → Bool
@@ -201,24 +199,24 @@ nowhere n = false
 -- they add up to the numbers that are asked about
 abbrev pub OutcomesAddUp : Type 0
 OutcomesAddUp =
-    (there : ℕ → Bool) (from last : ℕ) (times : List (Option ℕ)) (since : Option Location) (pair : Pair) (acts : List PlacedValue) (outcomes : Outcomes)
+    (there : ℕ → Bool) (from last : ℕ) (times : List (Option ℕ)) (since : Option Location) (pair : Pair) (acts : List placed.PlacedValue) (outcomes : Outcomes)
     → AreOutcomes there from last times since pair acts outcomes → all_of outcomes ≡ last + 1 - from
 
 -- what another recording changes of a number: nothing, where it is not there, or is received; else it arrived
-pub record IsChangedAlone (there : ℕ → Bool) (times : List (Option ℕ)) (since : Option Location) (pair : Pair) (acts : List PlacedValue) (n : ℕ) : Type 0 where
+pub record IsChangedAlone (there : ℕ → Bool) (times : List (Option ℕ)) (since : Option Location) (pair : Pair) (acts : List placed.PlacedValue) (n : ℕ) : Type 0 where
   pub elsewhere : there n ≡ false → outcome_of there times since pair acts n ≡ outcome_of nowhere times since pair acts n
-  pub received : is_received pair.writer pair.reader acts n ≡ true → outcome_of there times since pair acts n ≡ outcome_of nowhere times since pair acts n
-  pub arrived : there n ≡ true → is_received pair.writer pair.reader acts n ≡ false → outcome_of there times since pair acts n ≡ Arrived
+  pub received : received_spec.is_received pair.writer pair.reader acts n ≡ true → outcome_of there times since pair acts n ≡ outcome_of nowhere times since pair acts n
+  pub arrived : there n ≡ true → received_spec.is_received pair.writer pair.reader acts n ≡ false → outcome_of there times since pair acts n ≡ Outcome.Arrived
 
 -- it changes no more; and where no number is there, none arrived
 abbrev pub ArrivedIsAllThatChanges : Type 0
 ArrivedIsAllThatChanges =
-    ((there : ℕ → Bool) (times : List (Option ℕ)) (since : Option Location) (pair : Pair) (acts : List PlacedValue) (n : ℕ) → IsChangedAlone there times since pair acts n)
-    × ((there : ℕ → Bool) (from last : ℕ) (times : List (Option ℕ)) (since : Option Location) (pair : Pair) (acts : List PlacedValue) (outcomes : Outcomes)
+    ((there : ℕ → Bool) (times : List (Option ℕ)) (since : Option Location) (pair : Pair) (acts : List placed.PlacedValue) (n : ℕ) → IsChangedAlone there times since pair acts n)
+    × ((there : ℕ → Bool) (from last : ℕ) (times : List (Option ℕ)) (since : Option Location) (pair : Pair) (acts : List placed.PlacedValue) (outcomes : Outcomes)
     → ((n : ℕ) → there n ≡ false) → AreOutcomes there from last times since pair acts outcomes → outcomes.arrived ≡ 0)
 
 -- where no payload of a number is told to the reader, no run ends with one
 abbrev pub UnsentIsNotHeld : Type 0
 UnsentIsNotHeld =
-    (from : ℕ) (pair : Pair) (recording : List (List ActValue)) (n : ℕ) → is_sent pair.writer pair.reader (placed_in recording) n ≡ false
-    → (end : DeliveryState) → Ends from (speech_by pair.writer pair.reader recording) end → ¬ HoldsPayload end n
+    (from : ℕ) (pair : Pair) (recording : List (List values.ActValue)) (n : ℕ) → amount.is_sent pair.writer pair.reader (placed.placed_in recording) n ≡ false
+    → (end : delivery.DeliveryState) → delivery.Ends from (speech.speech_by pair.writer pair.reader recording) end → ¬ received_spec.HoldsPayload end n

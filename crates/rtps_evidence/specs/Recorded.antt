@@ -4,54 +4,54 @@
 use Rattle.std.specs.Prelude.{ℕ, Bool, true, false, ◌≡◌, ◌+◌, ◌-◌, not, if◌then◌else◌, List, map, Option, MatchOption, unwrap_or}
 use Rattle.rtps_ids.specs.declared.identity.Guid.{Guid}
 use Rattle.rtps_discovery.specs.declared.matching.Pair.{Pair}
-use Rattle.rtps_receiver.specs.Said.{said}
-use Rattle.rtps_receiver.specs.Speech.{is_spoken_by}
-use Rattle.rtps_audit.specs.Delivery.{greatest}
-use Rattle.rtps_audit.specs.Intake.{Intake}
-use Rattle.rtps_audit.specs.Placed.{PlacedValue, placed_in}
-use Rattle.rtps_audit.specs.Said.{datagrams_until}
-use Rattle.rtps_coverage.specs.Counts.{count_in}
-use Rattle.rtps_evidence.specs.Amount.{is_sent}
-use Rattle.rtps_evidence.specs.FirstNumbers.{first_ten, kept}
-use Rattle.rtps_evidence.specs.OtherSide.{OtherRecording, is_held, is_there, way_against}
-use Rattle.rtps_evidence.specs.Spans.{IsExtent}
+use Rattle.rtps_receiver.specs.Said as receiver_said
+use Rattle.rtps_receiver.specs.Speech as speech
+use Rattle.rtps_audit.specs.Delivery as delivery
+use Rattle.rtps_audit.specs.Intake as intake
+use Rattle.rtps_audit.specs.Placed as placed
+use Rattle.rtps_audit.specs.Said as audit_said
+use Rattle.rtps_coverage.specs.Counts as counts
+use Rattle.rtps_evidence.specs.Amount as amount
+use Rattle.rtps_evidence.specs.FirstNumbers as first_numbers
+use Rattle.rtps_evidence.specs.OtherSide as other_side
+use Rattle.rtps_evidence.specs.Spans as spans_spec
 use Rattle.rtps_evidence.specs.declared.recorded.Arrived.{Arrived}
 use Rattle.rtps_evidence.specs.declared.recorded.ArrivedNumbers.{ArrivedNumbers}
 use Rattle.rtps_evidence.specs.declared.recorded.Recorded.{Recorded}
 use Rattle.rtps_evidence.specs.declared.span.Span.{Span}
 
 -- the number of which the writer sends a payload, or a part of one, by an act, to whomever; or 0
-abbrev pub number_sent : Guid → PlacedValue → ℕ
-number_sent writer placed = if is_spoken_by placed.act writer then unwrap_or (said placed.act.body).brought 0 else 0
+abbrev pub number_sent : Guid → placed.PlacedValue → ℕ
+number_sent writer placed = if speech.is_spoken_by placed.act writer then unwrap_or (receiver_said.said placed.act.body).brought 0 else 0
 
 -- the greatest of them, or 0
-abbrev pub greatest_sent : Guid → List PlacedValue → ℕ
-greatest_sent writer acts = greatest (map (number_sent writer) acts)
+abbrev pub greatest_sent : Guid → List placed.PlacedValue → ℕ
+greatest_sent writer acts = delivery.greatest (map (number_sent writer) acts)
 
 -- of the numbers from the first one of a span on, up to the greatest that the writer sent: how many there are, and of how many the
 -- reader hears a payload
-pub record AreRecordedIn (span : Span) (pair : Pair) (acts : List PlacedValue) (found : Recorded) : Type 0 where
+pub record AreRecordedIn (span : Span) (pair : Pair) (acts : List placed.PlacedValue) (found : Recorded) : Type 0 where
   pub numbers : found.numbers ≡ greatest_sent pair.writer acts + 1 - span.from
-  pub recorded : found.recorded ≡ count_in (is_sent pair.writer pair.reader acts) span.from (greatest_sent pair.writer acts + 1)
+  pub recorded : found.recorded ≡ counts.count_in (amount.is_sent pair.writer pair.reader acts) span.from (greatest_sent pair.writer acts + 1)
 
 -- the same of what a row of the two would be by
-pub record IsRecordedBy (spans : Bool) (from : ℕ) (pair : Pair) (intake : Intake) (found : Recorded) : Type 0 where
+pub record IsRecordedBy (spans : Bool) (from : ℕ) (pair : Pair) (intake : intake.Intake) (found : Recorded) : Type 0 where
   pub span : Span
-  pub is_extent : IsExtent spans from pair intake span
-  pub are_recorded : AreRecordedIn span pair (placed_in (datagrams_until span.until intake.acts)) found
+  pub is_extent : spans_spec.IsExtent spans from pair intake span
+  pub are_recorded : AreRecordedIn span pair (placed.placed_in (audit_said.datagrams_until span.until intake.acts)) found
 
 -- of the numbers from lo on and below hi: how many are there, and the first ten that are not
 pub record IsArrivedAmong (there : ℕ → Bool) (lo hi : ℕ) (found : ArrivedNumbers) : Type 0 where
-  pub arrived : found.arrived ≡ count_in there lo hi
-  pub lacking : found.lacking ≡ kept (first_ten (λ n. not (there n)) lo hi)
+  pub arrived : found.arrived ≡ counts.count_in there lo hi
+  pub lacking : found.lacking ≡ first_numbers.kept (first_numbers.first_ten (λ n. not (there n)) lo hi)
 
 -- the same numbers, of a pair that is held against another recording: how many are there, and the first ten that are not. And which way
 -- round the two recordings are
-pub record IsArrivedBy (spans : Bool) (from : ℕ) (other : Option OtherRecording) (pair : Pair) (intake : Intake) (found : Arrived) : Type 0 where
+pub record IsArrivedBy (spans : Bool) (from : ℕ) (other : Option other_side.OtherRecording) (pair : Pair) (intake : intake.Intake) (found : Arrived) : Type 0 where
   pub span : Span
-  pub is_extent : IsExtent spans from pair intake span
-  pub way : found.way ≡ way_against intake.acts other pair
-  pub arrived : MatchOption found.numbers (is_held intake.acts other pair ≡ false)
-      (λ numbers. (is_held intake.acts other pair ≡ true)
-      × IsArrivedAmong (is_there intake.acts other pair) span.from
-      (greatest_sent pair.writer (placed_in (datagrams_until span.until intake.acts)) + 1) numbers)
+  pub is_extent : spans_spec.IsExtent spans from pair intake span
+  pub way : found.way ≡ other_side.way_against intake.acts other pair
+  pub arrived : MatchOption found.numbers (other_side.is_held intake.acts other pair ≡ false)
+      (λ numbers. (other_side.is_held intake.acts other pair ≡ true)
+      × IsArrivedAmong (other_side.is_there intake.acts other pair) span.from
+      (greatest_sent pair.writer (placed.placed_in (audit_said.datagrams_until span.until intake.acts)) + 1) numbers)

@@ -3,7 +3,7 @@
 -- None where it has none; datagrams count from 1.
 use Rattle.std.specs.Prelude.{ℕ, Bool, true, false, ◌+◌, ◌-◌, ◌/◌, ◌^◌, ◌≡◌, ◌<◌, ◌&&◌, nat_le, nat_lt, if◌then◌else◌, is_some, length, map, max, slice_get, slice_index_or, take, List, [], ◌∷◌, Option, Some, None}
 use Rattle.std.specs.List.{list_any}
-use Rattle.rtps_audit.specs.Delivery.{greatest}
+use Rattle.rtps_audit.specs.Delivery as delivery
 use Rattle.rtps_evidence.specs.declared.times.Seconds.{Seconds}
 
 -- the start of a capture, which is the time of the first frame that has one, its end, which is the greatest time of a frame, the time of
@@ -71,7 +71,7 @@ back_from (Some earlier) (Some later) = earlier - later
 -- the greatest of that, of all pairs of an earlier and a later datagram
 abbrev pub step_back : List (Option ℕ) → ℕ
 step_back [] = 0
-step_back (time ∷ times) = max (greatest (map (back_from time) times)) (step_back times)
+step_back (time ∷ times) = max (delivery.greatest (map (back_from time) times)) (step_back times)
 
 -- ---- a time that is said
 

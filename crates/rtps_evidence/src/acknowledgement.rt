@@ -1,13 +1,12 @@
 ghost use Rattle.std.specs.Prelude.{◌≡◌, ◌<◌, ◌==◌, ◌&&◌, ◌^◌, map, nat_lt, List};
 ghost use Rattle.std.specs.List.{find};
 ghost use Rattle.rtps_discovery.specs.declared.matching.Pair.{Pair as PairValue};
-ghost use Rattle.rtps_receiver.specs.Values.{ActValue};
-ghost use Rattle.rtps_audit.specs.Delivery.{greatest};
-ghost use Rattle.rtps_audit.specs.Index.{IsIndexBy};
-ghost use Rattle.rtps_audit.specs.Intake.{Intake};
-ghost use Rattle.rtps_audit.specs.Placed.{answers_among, placed_in};
-ghost use Rattle.rtps_receiver.specs.Said.{natural};
-ghost use Rattle.rtps_evidence.specs.Locations.{acknowledgement_of, claim_of};
+ghost use Rattle.rtps_receiver.specs.Values as values;
+ghost use Rattle.rtps_audit.specs.Delivery as delivery;
+ghost use Rattle.rtps_audit.specs.Index as index_spec;
+ghost use Rattle.rtps_audit.specs.Intake as intake;
+ghost use Rattle.rtps_audit.specs.Placed as placed;
+ghost use Rattle.rtps_receiver.specs.Said as said;
 ghost use Rattle.rtps_evidence.specs.Locations as locations;
 
 use crate::location::Location;
@@ -37,7 +36,7 @@ pub(crate) fn claim_in(answer: &Answer) -> Claim
 
 /// The greatest base of these answers, or 0.
 pub(crate) fn greatest_base(answers: &[Answer]) -> u64
-    ensures value { result ≡ greatest (map (λ answer. natural answer.base) answers.now) }
+    ensures value { result ≡ delivery.greatest (map (λ answer. said.natural answer.base) answers.now) }
     ensures in_range { result < 2 ^ 63 }
 {
     let mut greatest = 0u64;
@@ -49,14 +48,14 @@ pub(crate) fn greatest_base(answers: &[Answer]) -> u64
 
 /// Whether a reader acknowledges some number of a writer, any two GUIDs, by whatever answer of an index's recording.
 pub fn acknowledges(index: &Index<'_>, pair: Pair) -> bool
-    ensures { (intake : Intake) → IsIndexBy intake index.now → result ≡ locations.acknowledges pair.writer pair.reader (placed_in intake.acts) }
+    ensures { (intake : intake.Intake) → index_spec.IsIndexBy intake index.now → result ≡ locations.acknowledges pair.writer pair.reader (placed.placed_in intake.acts) }
 {
     greatest_base(index.answers_of(pair)) > 1
 }
 
 /// The first of these answers that has the base.
 fn first_with(answers: &[Answer], base: u64) -> Option<Claim>
-    ensures { result ≡ find (λ claim. natural claim.below == base) (map locations.claim_in answers.now) }
+    ensures { result ≡ find (λ claim. said.natural claim.below == base) (map locations.claim_in answers.now) }
 {
     for answer in answers {
         if answer.natural_base() == base {
@@ -68,7 +67,7 @@ fn first_with(answers: &[Answer], base: u64) -> Option<Claim>
 
 /// The first of these answers, in a datagram counted from 1, that has a base above the number.
 fn first_above(answers: &[Answer], datagram: u64, number: u64) -> Option<Claim>
-    ensures { result ≡ find (λ claim. (claim.place.datagram == datagram) && nat_lt number (natural claim.below)) (map locations.claim_in answers.now) }
+    ensures { result ≡ find (λ claim. (claim.place.datagram == datagram) && nat_lt number (said.natural claim.below)) (map locations.claim_in answers.now) }
 {
     for answer in answers {
         if answer.datagram as u64 == datagram && number < answer.natural_base() {
@@ -80,8 +79,8 @@ fn first_above(answers: &[Answer], datagram: u64, number: u64) -> Option<Claim>
 
 /// The first of a pair's answers that has the greatest base of all, where that is above `from`.
 pub(crate) fn find_acknowledgement(answers: &[Answer], from: FirstAsked) -> Option<Claim>
-    ensures { (pair : PairValue) (recording : List (List ActValue)) → answers.now ≡ answers_among pair (placed_in recording)
-        → result ≡ acknowledgement_of from pair.writer pair.reader (placed_in recording) }
+    ensures { (pair : PairValue) (recording : List (List values.ActValue)) → answers.now ≡ placed.answers_among pair (placed.placed_in recording)
+        → result ≡ locations.acknowledgement_of from pair.writer pair.reader (placed.placed_in recording) }
 {
     let base = greatest_base(answers);
     if base <= from.get() {
@@ -92,8 +91,8 @@ pub(crate) fn find_acknowledgement(answers: &[Answer], from: FirstAsked) -> Opti
 
 /// The first of a pair's answers, in a datagram counted from 1, that has a base above the number.
 pub(crate) fn find_claim(answers: &[Answer], datagram: u64, number: u64) -> Option<Claim>
-    ensures { (pair : PairValue) (recording : List (List ActValue)) → answers.now ≡ answers_among pair (placed_in recording)
-        → result ≡ claim_of pair.writer pair.reader datagram number (placed_in recording) }
+    ensures { (pair : PairValue) (recording : List (List values.ActValue)) → answers.now ≡ placed.answers_among pair (placed.placed_in recording)
+        → result ≡ locations.claim_of pair.writer pair.reader datagram number (placed.placed_in recording) }
 {
     first_above(answers, datagram, number)
 }

@@ -1,7 +1,7 @@
 ghost use Rattle.std.specs.Prelude.{◌≡◌};
-ghost use Rattle.rtps_audit.specs.Placed.{placed_value};
-ghost use Rattle.rtps_receiver.specs.Said.{natural};
-ghost use Rattle.rtps_receiver.specs.Values.{act_body_value};
+ghost use Rattle.rtps_audit.specs.Placed as placed_spec;
+ghost use Rattle.rtps_receiver.specs.Said as said;
+ghost use Rattle.rtps_receiver.specs.Values as values;
 ghost use Rattle.rtps_evidence.specs.WayRound as way_round;
 
 use rtps_audit::Placed;
@@ -9,7 +9,7 @@ use rtps_receiver::{ActBody, SpokenBody};
 
 /// The key of a number and a count.
 fn key_by(number: i64, count: u32) -> u128
-    ensures { result ≡ way_round.key_by (natural number) count }
+    ensures { result ≡ way_round.key_by (said.natural number) count }
 {
     let number = number.max(0).cast_unsigned();
     u128::from(number) * 4_294_967_296 + u128::from(count)
@@ -17,7 +17,7 @@ fn key_by(number: i64, count: u32) -> u128
 
 /// The key of what an act says.
 fn key_of_act_body(body: &ActBody<'_>) -> u128
-    ensures { result ≡ way_round.key_of_body (act_body_value body.now) }
+    ensures { result ≡ way_round.key_of_body (values.act_body_value body.now) }
 {
     match body {
         ActBody::Data(data) => key_by(data.number.get(), 0),
@@ -29,7 +29,7 @@ fn key_of_act_body(body: &ActBody<'_>) -> u128
 
 /// The key of an act: acts that are the same have the same one, and few others have it.
 pub(crate) fn key_of(placed: &Placed<'_>) -> u128
-    ensures { result ≡ way_round.key_of (placed_value placed.now) }
+    ensures { result ≡ way_round.key_of (placed_spec.placed_value placed.now) }
 {
     match &placed.act.body {
         SpokenBody::Act(body) => key_of_act_body(body),

@@ -1,10 +1,10 @@
 ghost use Rattle.std.specs.Prelude.{ℕ, ◌≡◌, ◌+◌, ◌-◌, ◌<◌, ◌≤◌, ◌&&◌, ◌||◌, ◌^◌, nat_le, nat_lt, IfOk, IfSome, List, OnOk};
-ghost use Rattle.rtps_coverage.specs.Counts.{count_in};
-ghost use Rattle.rtps_receiver.specs.Said.{is_at, numbers_have};
-ghost use Rattle.rtps_audit.specs.Placed.{placed_value};
-ghost use Rattle.rtps_coverage.specs.Stretches.{stretches_have};
-ghost use Rattle.rtps_evidence.specs.Amount.{AreAmounts, is_sent, is_told};
-ghost use Rattle.rtps_evidence.specs.Locations.{sends, tells};
+ghost use Rattle.rtps_coverage.specs.Counts as counts;
+ghost use Rattle.rtps_receiver.specs.Said as said;
+ghost use Rattle.rtps_audit.specs.Placed as placed_spec;
+ghost use Rattle.rtps_coverage.specs.Stretches as stretches_spec;
+ghost use Rattle.rtps_evidence.specs.Amount as amount;
+ghost use Rattle.rtps_evidence.specs.Locations as locations;
 
 use crate::said_to::said_to;
 use rtps_audit::{FirstAsked, Placed};
@@ -51,8 +51,8 @@ fn push_numbers(
     numbers: &Numbers<'_>,
     from: u64,
 ) -> Result<(), Memory>
-    ensures { OnOk result ((n : ℕ) → stretches_have stretches.new.items n
-        ≡ (stretches_have stretches.old.items n || (nat_le from n && numbers_have numbers.now n))) }
+    ensures { OnOk result ((n : ℕ) → stretches_spec.stretches_have stretches.new.items n
+        ≡ (stretches_spec.stretches_have stretches.old.items n || (nat_le from n && said.numbers_have numbers.now n))) }
 {
     let mut at = from;
     'apart: while let Some(range) = numbers.range_from(at) {
@@ -66,7 +66,7 @@ fn push_numbers(
 /// Appends a number, if there is one. After `Memory` the stretches are of no use.
 pub(crate) fn push_number(stretches: &mut Vec<Stretch>, number: Option<u64>) -> Result<(), Memory>
     requires { IfSome number (λ n. n < 2 ^ 63) }
-    ensures { OnOk result ((n : ℕ) → stretches_have stretches.new.items n ≡ (stretches_have stretches.old.items n || is_at n number)) }
+    ensures { OnOk result ((n : ℕ) → stretches_spec.stretches_have stretches.new.items n ≡ (stretches_spec.stretches_have stretches.old.items n || said.is_at n number)) }
 {
     let Some(lo) = number else {
         return Ok(());
@@ -76,8 +76,8 @@ pub(crate) fn push_number(stretches: &mut Vec<Stretch>, number: Option<u64>) -> 
 
 /// Appends these numbers below an end, range by range. After `Memory` the stretches are of no use.
 fn push_below(stretches: &mut Vec<Stretch>, numbers: &Numbers<'_>, end: u64) -> Result<(), Memory>
-    ensures { OnOk result ((n : ℕ) → stretches_have stretches.new.items n
-        ≡ (stretches_have stretches.old.items n || (nat_lt n end && numbers_have numbers.now n))) }
+    ensures { OnOk result ((n : ℕ) → stretches_spec.stretches_have stretches.new.items n
+        ≡ (stretches_spec.stretches_have stretches.old.items n || (nat_lt n end && said.numbers_have numbers.now n))) }
 {
     let mut at = 0;
     'apart: while let Some(range) = numbers.range_from(at) {
@@ -98,8 +98,8 @@ pub(crate) fn count_with(
     more: &[Stretch],
     asked: &AskedNumbers,
 ) -> Result<u64, Memory>
-    ensures numbers { OnOk result ((n : ℕ) → stretches_have numbers.new.items n ≡ (stretches_have numbers.old.items n || stretches_have more.now n)) }
-    ensures count { IfOk result (λ count. count ≡ count_in (λ n. stretches_have numbers.old.items n || stretches_have more.now n) asked.now.from (asked.now.last + 1)) }
+    ensures numbers { OnOk result ((n : ℕ) → stretches_spec.stretches_have numbers.new.items n ≡ (stretches_spec.stretches_have numbers.old.items n || stretches_spec.stretches_have more.now n)) }
+    ensures count { IfOk result (λ count. count ≡ counts.count_in (λ n. stretches_spec.stretches_have numbers.old.items n || stretches_spec.stretches_have more.now n) asked.now.from (asked.now.last + 1)) }
 {
     numbers.extend_from_slice(more)?;
     count_of(numbers, asked.from.get(), asked.last + 1)
@@ -107,7 +107,7 @@ pub(crate) fn count_with(
 
 /// The number, where it is from `from` on.
 fn number_from(number: Option<u64>, from: u64) -> Option<u64>
-    ensures same { (n : ℕ) → is_at n result ≡ (nat_le from n && is_at n number) }
+    ensures same { (n : ℕ) → said.is_at n result ≡ (nat_le from n && said.is_at n number) }
     ensures in_range { IfSome number (λ n. n < 2 ^ 63) → IfSome result (λ n. n < 2 ^ 63) }
 {
     match number {
@@ -118,7 +118,7 @@ fn number_from(number: Option<u64>, from: u64) -> Option<u64>
 
 /// The number, where it is below an end.
 fn number_below(number: Option<u64>, end: u64) -> Option<u64>
-    ensures same { (n : ℕ) → is_at n result ≡ (nat_lt n end && is_at n number) }
+    ensures same { (n : ℕ) → said.is_at n result ≡ (nat_lt n end && said.is_at n number) }
     ensures in_range { IfSome number (λ n. n < 2 ^ 63) → IfSome result (λ n. n < 2 ^ 63) }
 {
     match number {
@@ -130,9 +130,7 @@ fn number_below(number: Option<u64>, end: u64) -> Option<u64>
 impl HeardNumbers {
     ghost use Rattle.std.specs.Prelude.{[], Bool};
     ghost use Rattle.rtps_ids.specs.declared.identity.Guid.{Guid as GuidValue};
-    ghost use Rattle.rtps_audit.specs.Placed.{PlacedValue};
-    ghost use Rattle.rtps_evidence.specs.Amount.{AreNumbers, has_sent, has_told};
-    ghost use Rattle.rtps_evidence.specs.Received.{withdraws};
+    ghost use Rattle.rtps_evidence.specs.Received as received;
 
     /// No numbers.
     pub(crate) fn new(alloc: Global) -> Self
@@ -157,11 +155,11 @@ impl HeardNumbers {
         pair: Pair,
         claimed: u64,
     ) -> Result<(), Memory>
-        ensures { OnOk result (AreNumbers
-            (λ n. has_told self.old n || tells pair.writer pair.reader n (placed_value placed.now))
-            (λ n. has_sent self.old n || sends pair.writer pair.reader n (placed_value placed.now))
-            (λ n. stretches_have self.old.early.items n || (nat_le claimed n && sends pair.writer pair.reader n (placed_value placed.now)))
-            (λ n. stretches_have self.old.gone.items n || (nat_le claimed n && withdraws pair.writer pair.reader n (placed_value placed.now))) self.new) }
+        ensures { OnOk result (amount.AreNumbers
+            (λ n. amount.has_told self.old n || locations.tells pair.writer pair.reader n (placed_spec.placed_value placed.now))
+            (λ n. amount.has_sent self.old n || locations.sends pair.writer pair.reader n (placed_spec.placed_value placed.now))
+            (λ n. stretches_spec.stretches_have self.old.early.items n || (nat_le claimed n && locations.sends pair.writer pair.reader n (placed_spec.placed_value placed.now)))
+            (λ n. stretches_spec.stretches_have self.old.gone.items n || (nat_le claimed n && received.withdraws pair.writer pair.reader n (placed_spec.placed_value placed.now))) self.new) }
     {
         let said = said_to(placed, pair);
         push_number(&mut self.early, number_from(said.told, claimed))?;
@@ -172,9 +170,9 @@ impl HeardNumbers {
 
     /// The amounts of the numbers that are asked for. The stretches are of no use then.
     pub(crate) fn amounts(&mut self, asked: &AskedNumbers) -> Result<Amounts, Memory>
-        ensures { (writer reader : GuidValue) (acts : List PlacedValue) (is_early is_gone : ℕ → Bool)
-            → AreNumbers (is_told writer reader acts) (is_sent writer reader acts) is_early is_gone self.old
-            → IfOk result (AreAmounts asked.now.from asked.now.last writer reader acts) }
+        ensures { (writer reader : GuidValue) (acts : List placed_spec.PlacedValue) (is_early is_gone : ℕ → Bool)
+            → amount.AreNumbers (amount.is_told writer reader acts) (amount.is_sent writer reader acts) is_early is_gone self.old
+            → IfOk result (amount.AreAmounts asked.now.from asked.now.last writer reader acts) }
     {
         if asked.last < asked.from.get() {
             return Ok(Amounts {

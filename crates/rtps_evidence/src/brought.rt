@@ -1,8 +1,8 @@
 ghost use Rattle.std.specs.Prelude.{ℕ, true, ◌≡◌, ◌||◌, OnOk};
-ghost use Rattle.rtps_audit.specs.Placed.{placed_value};
-ghost use Rattle.rtps_coverage.specs.Rising.{AreRising};
-ghost use Rattle.rtps_coverage.specs.Stretches.{stretches_have};
-ghost use Rattle.rtps_evidence.specs.Missed.{brings_behind};
+ghost use Rattle.rtps_audit.specs.Placed as placed_spec;
+ghost use Rattle.rtps_coverage.specs.Rising as rising;
+ghost use Rattle.rtps_coverage.specs.Stretches as stretches;
+ghost use Rattle.rtps_evidence.specs.Missed as missed;
 
 use crate::listener::{Listener, number_behind};
 use rtps_audit::Placed;
@@ -19,9 +19,9 @@ pub(crate) fn push_brought(
     listener: &Listener,
     lacking: &[Stretch],
 ) -> Result<(), Memory>
-    requires { AreRising lacking.now }
-    ensures { OnOk result ((n : ℕ) → stretches_have lacking.now n ≡ true → stretches_have brought.new.items n ≡ (stretches_have brought.old.items n
-        || brings_behind listener.now.since listener.now.pair.writer listener.now.pair.reader n (placed_value placed.now))) }
+    requires { rising.AreRising lacking.now }
+    ensures { OnOk result ((n : ℕ) → stretches.stretches_have lacking.now n ≡ true → stretches.stretches_have brought.new.items n ≡ (stretches.stretches_have brought.old.items n
+        || missed.brings_behind listener.now.since listener.now.pair.writer listener.now.pair.reader n (placed_spec.placed_value placed.now))) }
 {
     let Some(number) = number_behind(placed, listener) else {
         return Ok(());

@@ -1,10 +1,9 @@
 ghost use Rattle.std.specs.Prelude.{◌≡◌, ◌+◌, ◌-◌, ◌<◌, ◌≤◌, ◌^◌, ◌++◌, ◌∷◌, [], true, if◌then◌else◌, map, filter, IfOk, OnOk, List};
 ghost use Rattle.rtps_discovery.specs.declared.matching.Pair.{Pair as PairValue};
 ghost use Rattle.rtps_receiver.specs.Speech as speech;
-ghost use Rattle.rtps_receiver.specs.Values.{ActValue, spoken_body_value};
-ghost use Rattle.rtps_audit.specs.Placed.{is_from, placed_in, placed_value};
-ghost use Rattle.rtps_evidence.specs.CountedAnswers.{counted_among, counted_with};
-ghost use Rattle.rtps_evidence.specs.LostAnswers.{answers, is_more};
+ghost use Rattle.rtps_receiver.specs.Values as values;
+ghost use Rattle.rtps_audit.specs.Placed as placed_spec;
+ghost use Rattle.rtps_evidence.specs.CountedAnswers as counted_answers;
 ghost use Rattle.rtps_evidence.specs.LostAnswers as lost_answers;
 
 use crate::location::{Location, location_of};
@@ -44,7 +43,7 @@ struct FragmentRequests {
 
 /// The count of an ACKNACK; 0 of another act.
 fn count_of(body: &SpokenBody<'_>) -> u32
-    ensures { result ≡ lost_answers.count_of (spoken_body_value body.now) }
+    ensures { result ≡ lost_answers.count_of (values.spoken_body_value body.now) }
 {
     match body {
         SpokenBody::Act(ActBody::AckNack(ack_nack)) => ack_nack.count,
@@ -58,26 +57,23 @@ fn count_of(body: &SpokenBody<'_>) -> u32
 
 /// Whether an act is an ACKNACK.
 fn is_ack_nack(body: &SpokenBody<'_>) -> bool
-    ensures { result ≡ speech.is_ack_nack (spoken_body_value body.now) }
+    ensures { result ≡ speech.is_ack_nack (values.spoken_body_value body.now) }
 {
     matches!(body, SpokenBody::Act(ActBody::AckNack(_)))
 }
 
 /// Whether an act is a NACK_FRAG of the pair's reader to its writer.
 fn asks_for_fragments(placed: &Placed<'_>, pair: Pair) -> bool
-    ensures { result ≡ lost_answers.asks_for_fragments pair.writer pair.reader (placed_value placed.now) }
+    ensures { result ≡ lost_answers.asks_for_fragments pair.writer pair.reader (placed_spec.placed_value placed.now) }
 {
     placed.act.asks(pair.reader, pair.writer) && !is_ack_nack(&placed.act.body)
 }
 
 impl FragmentRequests {
-    ghost use Rattle.rtps_audit.specs.Placed.{PlacedValue};
-    ghost use Rattle.rtps_evidence.specs.CountedAnswers.{AreRequests, with_alone};
-
     /// The reader said nothing yet.
     #[tactic(auto, using(crate::proofs::CountedLemmas::none_requested))]
     fn none() -> FragmentRequests
-        ensures { (pair : PairValue) → AreRequests pair [] result }
+        ensures { (pair : PairValue) → counted_answers.AreRequests pair [] result }
     {
         FragmentRequests {
             datagram: 0,
@@ -89,7 +85,7 @@ impl FragmentRequests {
 
     /// How many datagrams up to that of the last act are such, where that ends with it.
     fn ended(&self) -> u64
-        ensures { self.now.alone + 1 < 2 ^ 64 → result ≡ with_alone self.now.asks self.now.answers self.now.alone }
+        ensures { self.now.alone + 1 < 2 ^ 64 → result ≡ counted_answers.with_alone self.now.asks self.now.answers self.now.alone }
     {
         if self.asks && !self.answers {
             self.alone.saturating_add(1)
@@ -100,8 +96,8 @@ impl FragmentRequests {
 
     /// The same with the next act of the reader.
     fn with(&self, placed: &Placed<'_>, pair: Pair) -> FragmentRequests
-        ensures { (acts : List PlacedValue) → self.now.datagram ≤ placed.now.datagram → is_from pair.reader (placed_value placed.now) ≡ true
-            → AreRequests pair acts self.now → AreRequests pair (acts ++ placed_value placed.now ∷ []) result }
+        ensures { (acts : List placed_spec.PlacedValue) → self.now.datagram ≤ placed.now.datagram → placed_spec.is_from pair.reader (placed_spec.placed_value placed.now) ≡ true
+            → counted_answers.AreRequests pair acts self.now → counted_answers.AreRequests pair (acts ++ placed_spec.placed_value placed.now ∷ []) result }
     {
         let datagram = placed.datagram as u64;
         let asks = asks_for_fragments(placed, pair);
@@ -125,7 +121,7 @@ impl FragmentRequests {
 
 /// An answer of the pair's reader, where so many datagrams before its own ask for fragments alone.
 fn counted_at(placed: &Placed<'_>, alone: u64) -> CountedAnswer
-    ensures { result ≡ counted_with alone (placed_value placed.now) }
+    ensures { result ≡ counted_answers.counted_with alone (placed_spec.placed_value placed.now) }
 {
     CountedAnswer {
         place: location_of(placed),
@@ -142,7 +138,7 @@ fn push_answer(
     alone: u64,
 ) -> Result<(), Memory>
     ensures { OnOk result (counted.new.items
-        ≡ counted.old.items ++ (if answers pair.writer pair.reader (placed_value placed.now) then counted_with alone (placed_value placed.now) ∷ [] else [])) }
+        ≡ counted.old.items ++ (if lost_answers.answers pair.writer pair.reader (placed_spec.placed_value placed.now) then counted_answers.counted_with alone (placed_spec.placed_value placed.now) ∷ [] else [])) }
 {
     if placed.act.answers(pair.reader, pair.writer) {
         counted.push(counted_at(placed, alone))?;
@@ -156,8 +152,8 @@ pub(crate) fn counted_answers(
     acts: &[Placed<'_>],
     pair: Pair,
 ) -> Result<Vec<CountedAnswer>, Memory>
-    ensures { (recording : List (List ActValue)) → map placed_value acts.now ≡ filter (is_from pair.reader) (placed_in recording)
-        → IfOk result (λ counted. counted.items ≡ counted_among pair (map placed_value acts.now)) }
+    ensures { (recording : List (List values.ActValue)) → map placed_spec.placed_value acts.now ≡ filter (placed_spec.is_from pair.reader) (placed_spec.placed_in recording)
+        → IfOk result (λ counted. counted.items ≡ counted_answers.counted_among pair (map placed_spec.placed_value acts.now)) }
 {
     let mut counted = Vec::new(alloc);
     let mut requests = FragmentRequests::none();
@@ -177,7 +173,7 @@ fn left_out(one: u32, other: u32) -> u64
 
 /// Whether so many counts are left out that an answer lacks, where there are so many datagrams in between that ask for fragments alone.
 pub(crate) fn lacks_between(one: &CountedAnswer, other: &CountedAnswer) -> bool
-    ensures { result ≡ is_more (other.now.alone - one.now.alone) (lost_answers.left_out one.now.count other.now.count) }
+    ensures { result ≡ lost_answers.is_more (other.now.alone - one.now.alone) (lost_answers.left_out one.now.count other.now.count) }
 {
     let left = left_out(one.count, other.count);
     other.alone.saturating_sub(one.alone) < left && left < HALF_OF_COUNTS

@@ -1,11 +1,11 @@
 ghost use Rattle.std.specs.Prelude.{ℕ, Bool, ◌≡◌, IfOk, List};
-ghost use Rattle.rtps_receiver.specs.Values.{ActValue};
-ghost use Rattle.rtps_audit.specs.Index.{IsIndexBy};
-ghost use Rattle.rtps_audit.specs.Intake.{Intake};
-ghost use Rattle.rtps_audit.specs.RunVerdict.{IsVerdictFrom};
-ghost use Rattle.rtps_audit.specs.Said.{IsSaid, datagrams_until};
-ghost use Rattle.rtps_audit.specs.Speech.{speech_by};
-ghost use Rattle.rtps_coverage.specs.Stretches.{stretches_have};
+ghost use Rattle.rtps_receiver.specs.Values as values;
+ghost use Rattle.rtps_audit.specs.Index as index_spec;
+ghost use Rattle.rtps_audit.specs.Intake as intake;
+ghost use Rattle.rtps_audit.specs.RunVerdict as run_verdict;
+ghost use Rattle.rtps_audit.specs.Said as said;
+ghost use Rattle.rtps_audit.specs.Speech as speech;
+ghost use Rattle.rtps_coverage.specs.Stretches as stretches;
 
 use crate::acknowledgement::{Claim, find_acknowledgement};
 use crate::exchange::Exchange;
@@ -71,10 +71,10 @@ pub(crate) struct Found<'a> {
 }
 
 impl<'a> Evidence<'a> {
-    ghost use Rattle.rtps_evidence.specs.Evidence.{IsBeside, IsEvidence, IsEvidenceFrom, IsShown, IsVerdictIn};
-    ghost use Rattle.rtps_evidence.specs.Kinds.{IsLostIn, lost_value};
-    ghost use Rattle.rtps_evidence.specs.OtherSide.{AreSides, AreThere, Beside, is_there};
-    ghost use Rattle.rtps_evidence.specs.Spans.{since_of};
+    ghost use Rattle.rtps_evidence.specs.Evidence as evidence_spec;
+    ghost use Rattle.rtps_evidence.specs.Kinds as kinds;
+    ghost use Rattle.rtps_evidence.specs.OtherSide as other_side;
+    ghost use Rattle.rtps_evidence.specs.Spans as spans;
 
     /// The evidence of an index's recording for a writer and a reader, any two GUIDs, by the writer's numbers from `from` on:
     /// the verdict is that of [`Index::judge_from`]. `Memory` is answered where what is kept of the two cannot grow.
@@ -84,7 +84,7 @@ impl<'a> Evidence<'a> {
         pair: Pair,
         from: SeqNum,
     ) -> Result<Evidence<'a>, Memory>
-        ensures { (intake : Intake) → IsIndexBy intake index.now → IfOk result (IsEvidenceFrom from pair intake) }
+        ensures { (intake : intake.Intake) → index_spec.IsIndexBy intake index.now → IfOk result (evidence_spec.IsEvidenceFrom from pair intake) }
     {
         let verdict = index.judge_from(pair, from)?;
         let judgement = Judgement::of(index, Row { pair, verdict }, from, false)?;
@@ -105,13 +105,13 @@ impl<'a> Evidence<'a> {
         judgement: &Judgement,
     ) -> Result<Found<'a>, Memory>
         ensures judged { IfOk result (λ found. found.evidence.verdict ≡ judgement.now.verdict) }
-        ensures shown { (intake : Intake) (beside : Beside) → AreSides intake beside sides.now
-            → IsVerdictIn judgement.now.span judgement.now.pair intake.acts judgement.now.verdict
-            → IfOk result (λ found. IsShown (is_there intake.acts beside.other judgement.now.pair) judgement.now.span.from (since_of judgement.now.span) judgement.now.pair (datagrams_until judgement.now.span.until intake.acts) found.evidence) }
-        ensures beside { (intake : Intake) (beside : Beside) → AreSides intake beside sides.now
-            → IsVerdictIn judgement.now.span judgement.now.pair intake.acts judgement.now.verdict
-            → IfOk result (λ found. IsBeside judgement.now.in_spans beside judgement.now.span judgement.now.pair intake.acts (datagrams_until judgement.now.span.until intake.acts) found.evidence.in_span
-            × IsLostIn judgement.now.in_spans beside judgement.now.span judgement.now.pair intake.acts (datagrams_until judgement.now.span.until intake.acts) (lost_value found.lost)) }
+        ensures shown { (intake : intake.Intake) (beside : other_side.Beside) → other_side.AreSides intake beside sides.now
+            → evidence_spec.IsVerdictIn judgement.now.span judgement.now.pair intake.acts judgement.now.verdict
+            → IfOk result (λ found. evidence_spec.IsShown (other_side.is_there intake.acts beside.other judgement.now.pair) judgement.now.span.from (spans.since_of judgement.now.span) judgement.now.pair (said.datagrams_until judgement.now.span.until intake.acts) found.evidence) }
+        ensures beside { (intake : intake.Intake) (beside : other_side.Beside) → other_side.AreSides intake beside sides.now
+            → evidence_spec.IsVerdictIn judgement.now.span judgement.now.pair intake.acts judgement.now.verdict
+            → IfOk result (λ found. evidence_spec.IsBeside judgement.now.in_spans beside judgement.now.span judgement.now.pair intake.acts (said.datagrams_until judgement.now.span.until intake.acts) found.evidence.in_span
+            × kinds.IsLostIn judgement.now.in_spans beside judgement.now.span judgement.now.pair intake.acts (said.datagrams_until judgement.now.span.until intake.acts) (kinds.lost_value found.lost)) }
     {
         let arrivals = Arrivals::of(alloc, sides, judgement.pair)?;
         let exchange = Exchange {
@@ -135,15 +135,15 @@ impl<'a> Evidence<'a> {
         verdict: Verdict,
     ) -> Result<Found<'a>, Memory>
         ensures judged { IfOk result (λ found. found.evidence.verdict ≡ verdict) }
-        ensures shown { (recording : List (List ActValue)) (there : ℕ → Bool) → IsSaid exchange.now.pair recording exchange.now.said
-            → IsVerdictFrom exchange.now.span.from (speech_by exchange.now.pair.writer exchange.now.pair.reader recording) verdict
-            → ((n : ℕ) → stretches_have exchange.now.there.now n ≡ there n)
-            → IfOk result (λ found. IsShown there exchange.now.span.from (since_of exchange.now.span) exchange.now.pair recording found.evidence) }
-        ensures beside { (all recording : List (List ActValue)) (beside : Beside) → IsSaid exchange.now.pair recording exchange.now.said
-            → IsVerdictFrom exchange.now.span.from (speech_by exchange.now.pair.writer exchange.now.pair.reader recording) verdict
-            → AreThere all beside.other exchange.now.pair exchange.now.way exchange.now.is_held exchange.now.there.now → exchange.now.times.now.of_datagrams ≡ beside.times
-            → IfOk result (λ found. IsBeside exchange.now.in_spans beside exchange.now.span exchange.now.pair all recording found.evidence.in_span
-            × IsLostIn exchange.now.in_spans beside exchange.now.span exchange.now.pair all recording (lost_value found.lost)) }
+        ensures shown { (recording : List (List values.ActValue)) (there : ℕ → Bool) → said.IsSaid exchange.now.pair recording exchange.now.said
+            → run_verdict.IsVerdictFrom exchange.now.span.from (speech.speech_by exchange.now.pair.writer exchange.now.pair.reader recording) verdict
+            → ((n : ℕ) → stretches.stretches_have exchange.now.there.now n ≡ there n)
+            → IfOk result (λ found. evidence_spec.IsShown there exchange.now.span.from (spans.since_of exchange.now.span) exchange.now.pair recording found.evidence) }
+        ensures beside { (all recording : List (List values.ActValue)) (beside : other_side.Beside) → said.IsSaid exchange.now.pair recording exchange.now.said
+            → run_verdict.IsVerdictFrom exchange.now.span.from (speech.speech_by exchange.now.pair.writer exchange.now.pair.reader recording) verdict
+            → other_side.AreThere all beside.other exchange.now.pair exchange.now.way exchange.now.is_held exchange.now.there.now → exchange.now.times.now.of_datagrams ≡ beside.times
+            → IfOk result (λ found. evidence_spec.IsBeside exchange.now.in_spans beside exchange.now.span exchange.now.pair all recording found.evidence.in_span
+            × kinds.IsLostIn exchange.now.in_spans beside exchange.now.span exchange.now.pair all recording (kinds.lost_value found.lost)) }
     {
         let answers = exchange.said.answers;
         let mut heard = Heard::of(alloc, exchange)?;
@@ -188,7 +188,7 @@ impl<'a> Evidence<'a> {
     /// The evidence of an index's recording for a writer and a reader, any two GUIDs, by all numbers. `Memory` as of
     /// [`Evidence::of_from`].
     pub fn of(alloc: Global, index: &Index<'a>, pair: Pair) -> Result<Evidence<'a>, Memory>
-        ensures { (intake : Intake) → IsIndexBy intake index.now → IfOk result (IsEvidence pair intake) }
+        ensures { (intake : intake.Intake) → index_spec.IsIndexBy intake index.now → IfOk result (evidence_spec.IsEvidence pair intake) }
     {
         Evidence::of_from(alloc, index, pair, SeqNum::first())
     }

@@ -1,15 +1,15 @@
-ghost use Rattle.std.specs.Prelude.{ℕ, Bool, true, ◌≡◌, ◌≤◌, ◌&&◌, ◌++◌, ◌∷◌, [], map, not, filter, IfOk, OnOk, List, Option};
+ghost use Rattle.std.specs.Prelude.{ℕ, true, ◌≡◌, ◌≤◌, ◌&&◌, ◌++◌, ◌∷◌, [], map, not, filter, IfOk, OnOk, List, Option};
 ghost use Rattle.std.specs.BTreeMap.{get};
 ghost use Rattle.std.specs.List.{list_any};
 ghost use Rattle.std.specs.Ordering.{nat_cmp};
-ghost use Rattle.rtps_receiver.specs.Values.{ActValue};
-ghost use Rattle.rtps_audit.specs.Placed.{PlacedValue, is_from, placed_in, placed_value};
-ghost use Rattle.rtps_audit.specs.Said.{IsSaid};
-ghost use Rattle.rtps_coverage.specs.Rising.{AreRising};
-ghost use Rattle.rtps_coverage.specs.Stretches.{stretches_have};
-ghost use Rattle.rtps_evidence.specs.LastAsks.{AreResends, asked_before};
+ghost use Rattle.rtps_receiver.specs.Values as values;
+ghost use Rattle.rtps_audit.specs.Placed as placed_spec;
+ghost use Rattle.rtps_audit.specs.Said as said_spec;
+ghost use Rattle.rtps_coverage.specs.Rising as rising;
+ghost use Rattle.rtps_coverage.specs.Stretches as stretches;
+ghost use Rattle.rtps_evidence.specs.LastAsks as last_asks_spec;
 ghost use Rattle.rtps_evidence.specs.LostAnswers as lost_answers;
-ghost use Rattle.rtps_evidence.specs.Missed.{is_excused};
+ghost use Rattle.rtps_evidence.specs.Missed as missed_spec;
 ghost use Rattle.rtps_evidence.specs.declared.counted_answers.CountedAnswer.{CountedAnswer};
 ghost use Rattle.rtps_evidence.specs.declared.last_asks.LastAsk.{LastAsk as LastAskValue};
 
@@ -39,7 +39,7 @@ struct Resends {
 
 /// Whether an act of the pair's reader answers another writer.
 fn is_to_another(placed: &Placed<'_>, pair: Pair) -> bool
-    ensures { is_from pair.reader (placed_value placed.now) ≡ true → result ≡ lost_answers.answers_another pair.writer pair.reader (placed_value placed.now) }
+    ensures { placed_spec.is_from pair.reader (placed_spec.placed_value placed.now) ≡ true → result ≡ lost_answers.answers_another pair.writer pair.reader (placed_spec.placed_value placed.now) }
 {
     match placed.act.answered() {
         Some(writer) => writer != pair.writer,
@@ -49,7 +49,7 @@ fn is_to_another(placed: &Placed<'_>, pair: Pair) -> bool
 
 /// Whether one of the acts of the pair's reader does.
 fn answers_another(acts: &[Placed<'_>], pair: Pair) -> bool
-    ensures { (placed : List PlacedValue) → map placed_value acts.now ≡ filter (is_from pair.reader) placed
+    ensures { (placed : List placed_spec.PlacedValue) → map placed_spec.placed_value acts.now ≡ filter (placed_spec.is_from pair.reader) placed
         → result ≡ list_any (lost_answers.answers_another pair.writer pair.reader) placed }
 {
     for placed in acts {
@@ -62,7 +62,7 @@ fn answers_another(acts: &[Placed<'_>], pair: Pair) -> bool
 
 /// The ask for a number, where an act stands behind it.
 fn ask_before(asks: &BTreeMap<u64, LastAsk>, number: u64, placed: &Placed<'_>) -> Option<LastAsk>
-    ensures { result ≡ asked_before (placed_value placed.now) (get nat_cmp asks.now number) }
+    ensures { result ≡ last_asks_spec.asked_before (placed_spec.placed_value placed.now) (get nat_cmp asks.now number) }
 {
     let ask = asks.get(&number)?;
     if is_behind(Some(ask.place), placed) {
@@ -75,8 +75,8 @@ fn ask_before(asks: &BTreeMap<u64, LastAsk>, number: u64, placed: &Placed<'_>) -
 impl Resends {
     /// Is told an act of the writer. After `Memory` they are of no use.
     fn hear(&mut self, placed: &Placed<'_>, pair: Pair) -> Result<(), Memory>
-        ensures { OnOk result ((counted : List CountedAnswer) (asks : ℕ → Option LastAskValue) (acts : List PlacedValue)
-            → AreResends pair counted asks acts self.old → AreResends pair counted asks (acts ++ placed_value placed.now ∷ []) self.new) }
+        ensures { OnOk result ((counted : List CountedAnswer) (asks : ℕ → Option LastAskValue) (acts : List placed_spec.PlacedValue)
+            → last_asks_spec.AreResends pair counted asks acts self.old → last_asks_spec.AreResends pair counted asks (acts ++ placed_spec.placed_value placed.now ∷ []) self.new) }
     {
         let Some(number) = said_to(placed, pair).brought else {
             return Ok(());
@@ -102,10 +102,10 @@ fn excused_of(
     pair: Pair,
     numbers: &[Stretch],
 ) -> Result<Vec<Stretch>, Memory>
-    requires { AreRising numbers.now }
-    ensures { (recording : List (List ActValue)) → IsSaid pair recording said.now
-        → IfOk result (λ excused. (n : ℕ) → stretches_have excused.items n
-        ≡ (stretches_have numbers.now n && is_excused pair.writer pair.reader (placed_in recording) n)) }
+    requires { rising.AreRising numbers.now }
+    ensures { (recording : List (List values.ActValue)) → said_spec.IsSaid pair recording said.now
+        → IfOk result (λ excused. (n : ℕ) → stretches.stretches_have excused.items n
+        ≡ (stretches.stretches_have numbers.now n && missed_spec.is_excused pair.writer pair.reader (placed_spec.placed_in recording) n)) }
 {
     let asks = said.asks;
     if answers_another(asks, pair) {
@@ -129,10 +129,10 @@ pub(crate) fn missed_of(
     unmet: &[Stretch],
     asked: &AskedNumbers,
 ) -> Result<Vec<Stretch>, Memory>
-    requires { AreRising unmet.now }
-    ensures { (recording : List (List ActValue)) → IsSaid exchange.now.pair recording exchange.now.said
-        → IfOk result (λ missed. (n : ℕ) → asked.now.from ≤ n → n ≤ asked.now.last → stretches_have missed.items n
-        ≡ (stretches_have unmet.now n && not (is_excused exchange.now.pair.writer exchange.now.pair.reader (placed_in recording) n))) }
+    requires { rising.AreRising unmet.now }
+    ensures { (recording : List (List values.ActValue)) → said_spec.IsSaid exchange.now.pair recording exchange.now.said
+        → IfOk result (λ missed. (n : ℕ) → asked.now.from ≤ n → n ≤ asked.now.last → stretches.stretches_have missed.items n
+        ≡ (stretches.stretches_have unmet.now n && not (missed_spec.is_excused exchange.now.pair.writer exchange.now.pair.reader (placed_spec.placed_in recording) n))) }
 {
     if unmet.is_empty() {
         return Ok(Vec::new(alloc));

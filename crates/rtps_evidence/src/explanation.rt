@@ -1,13 +1,13 @@
 ghost use Rattle.std.specs.Prelude.{false, ◌≡◌, length, map, All, IfOk};
 ghost use Rattle.std.specs.List.{range_with_len};
-ghost use Rattle.rtps_discovery.specs.Directory.{settled_at};
-ghost use Rattle.rtps_audit.specs.Index.{IsIndexBy};
-ghost use Rattle.rtps_audit.specs.Intake.{Intake};
-ghost use Rattle.rtps_audit.specs.Report.{IsJudgedFrom};
-ghost use Rattle.rtps_evidence.specs.Evidence.{IsEvidenceBy};
-ghost use Rattle.rtps_evidence.specs.Explanation.{AreExplained, AreLostOf, IsExplainedBy, IsExplainedFrom, IsNamed, row_of, topic_of, type_of};
-ghost use Rattle.rtps_evidence.specs.Kinds.{lost_value};
-ghost use Rattle.rtps_evidence.specs.OtherSide.{AreSides, Beside};
+ghost use Rattle.rtps_discovery.specs.Directory as directory_spec;
+ghost use Rattle.rtps_audit.specs.Index as index;
+ghost use Rattle.rtps_audit.specs.Intake as intake;
+ghost use Rattle.rtps_audit.specs.Report as report;
+ghost use Rattle.rtps_evidence.specs.Evidence as evidence_spec;
+ghost use Rattle.rtps_evidence.specs.Explanation as explanation;
+ghost use Rattle.rtps_evidence.specs.Kinds as kinds;
+ghost use Rattle.rtps_evidence.specs.OtherSide as other_side;
 
 use crate::evidence::Evidence;
 use crate::exchange::Extent;
@@ -53,8 +53,8 @@ pub struct ExplainedRows<'a> {
 
 /// The topic of a GUID's endpoint and its type; empty where it has none.
 fn names_of<'a>(directory: &Directory<'a>, guid: Guid) -> (&'a [u8], &'a [u8])
-    ensures topic { result.0.now ≡ topic_of (settled_at directory.now.endpoints guid) }
-    ensures type_name { result.1.now ≡ type_of (settled_at directory.now.endpoints guid) }
+    ensures topic { result.0.now ≡ explanation.topic_of (directory_spec.settled_at directory.now.endpoints guid) }
+    ensures type_name { result.1.now ≡ explanation.type_of (directory_spec.settled_at directory.now.endpoints guid) }
 {
     match directory.endpoint(guid) {
         Some(endpoint) => (endpoint.topic, endpoint.type_name),
@@ -73,14 +73,14 @@ fn explain_rows<'a, P: Watch>(
 ) -> Result<ExplainedRows<'a>, Memory>
     ensures pairs { IfOk result (λ explained. map (λ row. row.pair) explained.rows.items ≡ map (λ row. row.pair) rows.now) }
     ensures places { IfOk result (λ explained. map (λ row. row.place) explained.rows.items ≡ range_with_len 0 (length explained.rows.items)) }
-    ensures rows { (intake : Intake) → IsIndexBy intake sides.now.index.now → extent.in_spans ≡ false → IfOk result (λ explained. map row_of explained.rows.items ≡ rows.now) }
-    ensures named { IfOk result (λ explained. All (IsNamed directory.now.endpoints) explained.rows.items) }
-    ensures shown { (intake : Intake) (beside : Beside) → AreSides intake beside sides.now
-        → All (IsJudgedFrom extent.from intake.acts) rows.now
-        → IfOk result (λ explained. All (λ row. IsEvidenceBy extent.in_spans extent.from beside row.pair intake row.evidence) explained.rows.items) }
-    ensures lost { (intake : Intake) (beside : Beside) → AreSides intake beside sides.now
-        → All (IsJudgedFrom extent.from intake.acts) rows.now
-        → IfOk result (λ explained. AreLostOf extent.in_spans extent.from beside intake (map (λ row. row.pair) rows.now) (map lost_value explained.lost.items)) }
+    ensures rows { (intake : intake.Intake) → index.IsIndexBy intake sides.now.index.now → extent.in_spans ≡ false → IfOk result (λ explained. map explanation.row_of explained.rows.items ≡ rows.now) }
+    ensures named { IfOk result (λ explained. All (explanation.IsNamed directory.now.endpoints) explained.rows.items) }
+    ensures shown { (intake : intake.Intake) (beside : other_side.Beside) → other_side.AreSides intake beside sides.now
+        → All (report.IsJudgedFrom extent.from intake.acts) rows.now
+        → IfOk result (λ explained. All (λ row. evidence_spec.IsEvidenceBy extent.in_spans extent.from beside row.pair intake row.evidence) explained.rows.items) }
+    ensures lost { (intake : intake.Intake) (beside : other_side.Beside) → other_side.AreSides intake beside sides.now
+        → All (report.IsJudgedFrom extent.from intake.acts) rows.now
+        → IfOk result (λ explained. explanation.AreLostOf extent.in_spans extent.from beside intake (map (λ row. row.pair) rows.now) (map kinds.lost_value explained.lost.items)) }
 {
     let index = sides.index;
     let from = extent.from;
@@ -118,9 +118,9 @@ pub fn explain_pairs<'a, P: Watch>(
     extent: Extent,
     watch: &mut P,
 ) -> Result<ExplainedRows<'a>, Memory>
-    ensures { (intake : Intake) (beside : Beside) → AreSides intake beside sides.now
-        → All (IsJudgedFrom extent.from intake.acts) known.now
-        → IfOk result (λ found. AreExplained extent.in_spans extent.from beside intake pairs.now found.rows.items (map lost_value found.lost.items)) }
+    ensures { (intake : intake.Intake) (beside : other_side.Beside) → other_side.AreSides intake beside sides.now
+        → All (report.IsJudgedFrom extent.from intake.acts) known.now
+        → IfOk result (λ found. explanation.AreExplained extent.in_spans extent.from beside intake pairs.now found.rows.items (map kinds.lost_value found.lost.items)) }
 {
     let rows = judged_rows(alloc, sides.index, pairs, known, extent.from)?;
     let explained = explain_rows(alloc, sides, sides.index.directory(), &rows, extent, watch)?;
@@ -136,8 +136,8 @@ pub fn explain_index<'a, P: Watch>(
     extent: Extent,
     watch: &mut P,
 ) -> Result<Explained<'a>, Memory>
-    ensures { (intake : Intake) (beside : Beside) → AreSides intake beside sides.now
-        → IfOk result (IsExplainedBy extent.in_spans extent.from beside intake) }
+    ensures { (intake : intake.Intake) (beside : other_side.Beside) → other_side.AreSides intake beside sides.now
+        → IfOk result (explanation.IsExplainedBy extent.in_spans extent.from beside intake) }
 {
     let index = sides.index;
     let report = index.report_from(extent.from, watch)?;
@@ -156,7 +156,7 @@ pub fn explain_from<'a, P: Watch>(
     extent: Extent,
     watch: &mut P,
 ) -> Result<Explained<'a>, Memory>
-    ensures { IfOk result (IsExplainedFrom extent.in_spans extent.from (map (λ datagram. datagram.now) recording.now)) }
+    ensures { IfOk result (explanation.IsExplainedFrom extent.in_spans extent.from (map (λ datagram. datagram.now) recording.now)) }
 {
     let index = Index::build(alloc, recording)?;
     let times = Times::none(alloc);

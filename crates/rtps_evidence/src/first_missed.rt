@@ -1,12 +1,10 @@
 ghost use Rattle.std.specs.Prelude.{◌≡◌, ◌<◌, ◌^◌, map, List, Some};
 ghost use Rattle.std.specs.List.{list_any};
 ghost use Rattle.std.specs.Option.{option_map};
-ghost use Rattle.rtps_receiver.specs.Values.{ActValue};
-ghost use Rattle.rtps_audit.specs.Placed.{placed_in, placed_value};
-ghost use Rattle.rtps_audit.specs.Said.{IsSaid};
-ghost use Rattle.rtps_evidence.specs.Locations.{find_last};
+ghost use Rattle.rtps_receiver.specs.Values as values;
+ghost use Rattle.rtps_audit.specs.Placed as placed_spec;
+ghost use Rattle.rtps_audit.specs.Said as said;
 ghost use Rattle.rtps_evidence.specs.Locations as locations;
-ghost use Rattle.rtps_evidence.specs.Missed.{again_behind, asks_for, gone_behind, missed_by};
 ghost use Rattle.rtps_evidence.specs.Missed as missed_spec;
 
 use crate::exchange::Exchange;
@@ -34,7 +32,7 @@ pub struct FirstMissed {
 /// Whether the pair's reader asks its writer for the number by an act.
 fn asks(placed: &Placed<'_>, pair: Pair, number: u64) -> bool
     requires { number < 2 ^ 63 }
-    ensures { result ≡ asks_for pair.writer pair.reader number (placed_value placed.now) }
+    ensures { result ≡ missed_spec.asks_for pair.writer pair.reader number (placed_spec.placed_value placed.now) }
 {
     if !placed.act.asks(pair.reader, pair.writer) {
         return false;
@@ -45,7 +43,7 @@ fn asks(placed: &Placed<'_>, pair: Pair, number: u64) -> bool
 /// Where the last of these acts stands by which the pair's reader asks its writer for the number.
 fn last_asking(acts: &[Placed<'_>], pair: Pair, number: u64) -> Option<Location>
     requires { number < 2 ^ 63 }
-    ensures { result ≡ option_map locations.location_of (find_last (asks_for pair.writer pair.reader number) (map placed_value acts.now)) }
+    ensures { result ≡ option_map locations.location_of (locations.find_last (missed_spec.asks_for pair.writer pair.reader number) (map placed_spec.placed_value acts.now)) }
 {
     let mut last = None;
     for placed in acts {
@@ -59,7 +57,7 @@ fn last_asking(acts: &[Placed<'_>], pair: Pair, number: u64) -> Option<Location>
 /// Whether the reader hears by an act, behind a place, that the number will not come.
 fn withdraws_behind(placed: &Placed<'_>, pair: Pair, number: u64, place: Location) -> bool
     requires { number < 2 ^ 63 }
-    ensures { result ≡ missed_spec.withdraws_behind place pair.writer pair.reader number (placed_value placed.now) }
+    ensures { result ≡ missed_spec.withdraws_behind place pair.writer pair.reader number (placed_spec.placed_value placed.now) }
 {
     is_behind(Some(place), placed) && withdraws(placed, pair, number)
 }
@@ -72,7 +70,7 @@ fn first_gone_behind(
     place: Location,
 ) -> Option<Teller>
     requires { number < 2 ^ 63 }
-    ensures { result ≡ gone_behind place pair.writer pair.reader number (map placed_value acts.now) }
+    ensures { result ≡ missed_spec.gone_behind place pair.writer pair.reader number (map placed_spec.placed_value acts.now) }
 {
     for placed in acts {
         if withdraws_behind(placed, pair, number, place) {
@@ -84,7 +82,7 @@ fn first_gone_behind(
 
 /// Where the first of these acts stands, behind a place, that brings the reader the number.
 fn first_again(acts: &[Placed<'_>], pair: Pair, number: u64, place: Location) -> Option<Location>
-    ensures { result ≡ again_behind place pair.writer pair.reader number (map placed_value acts.now) }
+    ensures { result ≡ missed_spec.again_behind place pair.writer pair.reader number (map placed_spec.placed_value acts.now) }
 {
     for placed in acts {
         if is_behind(Some(place), placed) && brings(placed, pair, number) {
@@ -96,7 +94,7 @@ fn first_again(acts: &[Placed<'_>], pair: Pair, number: u64, place: Location) ->
 
 /// Whether one of these acts brings the reader the number.
 fn is_sent(acts: &[Placed<'_>], pair: Pair, number: u64) -> bool
-    ensures { result ≡ list_any (missed_spec.brings pair.writer pair.reader number) (map placed_value acts.now) }
+    ensures { result ≡ list_any (missed_spec.brings pair.writer pair.reader number) (map placed_spec.placed_value acts.now) }
 {
     for placed in acts {
         if brings(placed, pair, number) {
@@ -109,8 +107,8 @@ fn is_sent(acts: &[Placed<'_>], pair: Pair, number: u64) -> bool
 /// The number as one that is missed; None where the pair's reader never asks its writer for it.
 pub(crate) fn first_missed_at(exchange: &Exchange<'_, '_>, number: u64) -> Option<FirstMissed>
     requires { number < 2 ^ 63 }
-    ensures { (recording : List (List ActValue)) → IsSaid exchange.now.pair recording exchange.now.said
-        → result ≡ missed_by exchange.now.pair.writer exchange.now.pair.reader (placed_in recording) (Some number) }
+    ensures { (recording : List (List values.ActValue)) → said.IsSaid exchange.now.pair recording exchange.now.said
+        → result ≡ missed_spec.missed_by exchange.now.pair.writer exchange.now.pair.reader (placed_spec.placed_in recording) (Some number) }
 {
     let pair = exchange.pair;
     let acts = exchange.said.acts;

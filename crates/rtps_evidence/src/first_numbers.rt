@@ -1,6 +1,6 @@
 ghost use Rattle.std.specs.Prelude.{ℕ, ◌≡◌, ◌≤◌, ◌<◌, ◌+◌, ◌++◌, ◌∷◌, [], not, IfOk, List};
-ghost use Rattle.rtps_coverage.specs.Stretches.{stretches_have};
-ghost use Rattle.rtps_evidence.specs.FirstNumbers.{first_ten, kept, numbers_of};
+ghost use Rattle.rtps_coverage.specs.Stretches as stretches_spec;
+ghost use Rattle.rtps_evidence.specs.FirstNumbers as first_numbers;
 
 use crate::amount::AskedNumbers;
 use crate::lacking::others_of;
@@ -21,7 +21,7 @@ pub struct FirstNumbers {
 impl FirstNumbers {
     /// No numbers.
     pub(crate) fn none() -> FirstNumbers
-        ensures { result ≡ kept [] }
+        ensures { result ≡ first_numbers.kept [] }
     {
         FirstNumbers {
             places: [0; 10],
@@ -32,7 +32,7 @@ impl FirstNumbers {
     /// Adds a number behind the others.
     fn push(&mut self, number: u64)
         requires { self.old.count < 10 }
-        ensures { (numbers : List ℕ) → self.old ≡ kept numbers → self.new ≡ kept (numbers ++ number ∷ []) }
+        ensures { (numbers : List ℕ) → self.old ≡ first_numbers.kept numbers → self.new ≡ first_numbers.kept (numbers ++ number ∷ []) }
     {
         self.places[self.count] = number;
         self.count += 1;
@@ -41,7 +41,7 @@ impl FirstNumbers {
     /// The first of the numbers from `from` on and below `end` that a stretch has.
     fn inside(stretches: &[Stretch], from: u64, end: u64) -> FirstNumbers
         requires { from ≤ end }
-        ensures { result ≡ kept (first_ten (stretches_have stretches.now) from end) }
+        ensures { result ≡ first_numbers.kept (first_numbers.first_ten (stretches_spec.stretches_have stretches.now) from end) }
     {
         let mut first = FirstNumbers::none();
         let mut at = least_inside(stretches, from, end);
@@ -59,7 +59,7 @@ impl FirstNumbers {
         asked: &AskedNumbers,
     ) -> Result<FirstNumbers, Memory>
         ensures { IfOk result (λ first. first
-            ≡ kept (first_ten (λ n. not (stretches_have stretches.old.items n)) asked.now.from (asked.now.last + 1))) }
+            ≡ first_numbers.kept (first_numbers.first_ten (λ n. not (stretches_spec.stretches_have stretches.old.items n)) asked.now.from (asked.now.last + 1))) }
     {
         let rest = others_of(alloc, stretches, asked)?;
         let from = asked.from.get();
@@ -68,7 +68,7 @@ impl FirstNumbers {
 
     /// They, in their order.
     pub fn as_slice(&self) -> &[u64]
-        ensures { result.now ≡ numbers_of self.now }
+        ensures { result.now ≡ first_numbers.numbers_of self.now }
     {
         let count = self.count.min(self.places.len());
         &self.places[..count]

@@ -1,13 +1,10 @@
 ghost use Rattle.std.specs.Prelude.{◌≡◌, ◌<◌, ◌^◌, filter, map, List};
-ghost use Rattle.rtps_receiver.specs.Values.{ActValue};
-ghost use Rattle.rtps_audit.specs.Placed.{is_from, placed_in, placed_value};
-ghost use Rattle.rtps_audit.specs.Said.{IsSaid};
+ghost use Rattle.rtps_receiver.specs.Values as values;
+ghost use Rattle.rtps_audit.specs.Placed as placed;
+ghost use Rattle.rtps_audit.specs.Said as audit_said;
 ghost use Rattle.rtps_receiver.specs.Said as said;
-ghost use Rattle.rtps_evidence.specs.Grounds.{grounds_by, grounds_value, number_in};
-ghost use Rattle.rtps_evidence.specs.Grounds.GroundsValue.{ConflictGrounds, OpenGrounds};
-ghost use Rattle.rtps_evidence.specs.Locations.{teller_of};
+ghost use Rattle.rtps_evidence.specs.Grounds as grounds;
 ghost use Rattle.rtps_evidence.specs.Locations as locations;
-ghost use Rattle.rtps_evidence.specs.Questions.{AreQuestions};
 ghost use Rattle.rtps_evidence.specs.Questions as questions_spec;
 
 use crate::acknowledgement::{Claim, find_claim};
@@ -58,7 +55,7 @@ fn natural(number: i64) -> u64
 
 /// The number of a verdict, or 0 for one below it.
 fn number_of(verdict: &Verdict) -> u64
-    ensures value { result ≡ number_in verdict.now }
+    ensures value { result ≡ grounds.number_in verdict.now }
     ensures in_range { result < 2 ^ 63 }
 {
     match *verdict {
@@ -77,11 +74,11 @@ fn open_grounds<'a>(
     number: u64,
 ) -> Grounds<'a>
     requires { number < 2 ^ 63 }
-    ensures { (recording : List (List ActValue)) → map placed_value acts.now ≡ filter (is_from pair.writer) (placed_in recording)
-        → AreQuestions pair.writer pair.reader (placed_in recording) questions.now
-        → grounds_value result ≡ OpenGrounds (teller_of pair.writer pair.reader number (placed_in recording))
-        (questions_spec.asked_since pair.writer pair.reader (placed_in recording)) (questions_spec.first_asked pair.writer pair.reader (placed_in recording))
-        (questions_spec.last_asked pair.writer pair.reader (placed_in recording)) }
+    ensures { (recording : List (List values.ActValue)) → map placed.placed_value acts.now ≡ filter (placed.is_from pair.writer) (placed.placed_in recording)
+        → questions_spec.AreQuestions pair.writer pair.reader (placed.placed_in recording) questions.now
+        → grounds.grounds_value result ≡ grounds.GroundsValue.OpenGrounds (locations.teller_of pair.writer pair.reader number (placed.placed_in recording))
+        (questions_spec.asked_since pair.writer pair.reader (placed.placed_in recording)) (questions_spec.first_asked pair.writer pair.reader (placed.placed_in recording))
+        (questions_spec.last_asked pair.writer pair.reader (placed.placed_in recording)) }
 {
     Grounds::Open {
         teller: find_teller(acts, pair, number),
@@ -93,9 +90,9 @@ fn open_grounds<'a>(
 
 /// Where the verdict is conflict, by what the writer says.
 fn conflict_grounds<'a>(acts: &[Placed<'a>], pair: Pair, number: u64) -> Grounds<'a>
-    ensures { (recording : List (List ActValue)) → map placed_value acts.now ≡ filter (is_from pair.writer) (placed_in recording)
-        → grounds_value result ≡ ConflictGrounds (locations.first_sent pair.writer pair.reader number (placed_in recording))
-        (locations.other_sent pair.writer pair.reader number (placed_in recording)) }
+    ensures { (recording : List (List values.ActValue)) → map placed.placed_value acts.now ≡ filter (placed.is_from pair.writer) (placed.placed_in recording)
+        → grounds.grounds_value result ≡ grounds.GroundsValue.ConflictGrounds (locations.first_sent pair.writer pair.reader number (placed.placed_in recording))
+        (locations.other_sent pair.writer pair.reader number (placed.placed_in recording)) }
 {
     Grounds::Conflict {
         first: first_sent(acts, pair, number),
@@ -109,9 +106,9 @@ pub(crate) fn grounds_of<'a>(
     questions: &Questions,
     verdict: &Verdict,
 ) -> Grounds<'a>
-    ensures { (recording : List (List ActValue)) → IsSaid exchange.now.pair recording exchange.now.said
-        → AreQuestions exchange.now.pair.writer exchange.now.pair.reader (placed_in recording) questions.now
-        → grounds_value result ≡ grounds_by verdict.now exchange.now.pair (placed_in recording) }
+    ensures { (recording : List (List values.ActValue)) → audit_said.IsSaid exchange.now.pair recording exchange.now.said
+        → questions_spec.AreQuestions exchange.now.pair.writer exchange.now.pair.reader (placed.placed_in recording) questions.now
+        → grounds.grounds_value result ≡ grounds.grounds_by verdict.now exchange.now.pair (placed.placed_in recording) }
 {
     let pair = exchange.pair;
     let acts = exchange.said.acts;

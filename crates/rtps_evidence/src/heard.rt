@@ -1,8 +1,8 @@
-ghost use Rattle.std.specs.Prelude.{◌≡◌, ◌+◌, ◌<◌, ◌^◌, ◌++◌, ◌∷◌, [], length, map, IfOk, OnOk, List};
-ghost use Rattle.rtps_audit.specs.Placed.{PlacedValue, placed_value};
-ghost use Rattle.rtps_coverage.specs.Rising.{AreRising};
-ghost use Rattle.rtps_evidence.specs.Claimed.{AreClaims};
-ghost use Rattle.rtps_evidence.specs.Heard.{IsHeard};
+ghost use Rattle.std.specs.Prelude.{◌+◌, ◌<◌, ◌^◌, ◌++◌, ◌∷◌, [], length, map, IfOk, OnOk, List};
+ghost use Rattle.rtps_audit.specs.Placed as placed_spec;
+ghost use Rattle.rtps_coverage.specs.Rising as rising;
+ghost use Rattle.rtps_evidence.specs.Claimed as claimed;
+ghost use Rattle.rtps_evidence.specs.Heard as heard;
 
 use crate::amount::HeardNumbers;
 use crate::claimed::claims_of;
@@ -31,7 +31,7 @@ pub(crate) struct Heard<'s> {
 impl<'s> Heard<'s> {
     /// The writer said nothing yet.
     fn new(alloc: Global, exchange: &Exchange<'s, '_>) -> Heard<'s>
-        ensures { IsHeard exchange.now [] result }
+        ensures { heard.IsHeard exchange.now [] result }
     {
         Heard {
             announced: Announced::new(),
@@ -48,9 +48,9 @@ impl<'s> Heard<'s> {
         exchange: &Exchange<'_, '_>,
         claims: &[Stretch],
     ) -> Result<(), Memory>
-        requires { AreRising claims.now }
-        ensures { OnOk result ((acts : List PlacedValue) → length acts + 1 < 2 ^ 64 → AreClaims exchange.now.said.answers.now claims.now → IsHeard exchange.now acts self.old
-            → IsHeard exchange.now (acts ++ placed_value placed.now ∷ []) self.new) }
+        requires { rising.AreRising claims.now }
+        ensures { OnOk result ((acts : List placed_spec.PlacedValue) → length acts + 1 < 2 ^ 64 → claimed.AreClaims exchange.now.said.answers.now claims.now → heard.IsHeard exchange.now acts self.old
+            → heard.IsHeard exchange.now (acts ++ placed_spec.placed_value placed.now ∷ []) self.new) }
     {
         self.announced.hear(placed, exchange.pair.writer);
         self.wait.hear(placed, exchange);
@@ -61,7 +61,7 @@ impl<'s> Heard<'s> {
 
     /// Of a pair, by all that it said.
     pub(crate) fn of(alloc: Global, exchange: &Exchange<'s, '_>) -> Result<Heard<'s>, Memory>
-        ensures { IfOk result (IsHeard exchange.now (map placed_value exchange.now.said.acts.now)) }
+        ensures { IfOk result (heard.IsHeard exchange.now (map placed_spec.placed_value exchange.now.said.acts.now)) }
     {
         let claims = claims_of(alloc, exchange.said.answers)?;
         let mut heard = Heard::new(alloc, exchange);

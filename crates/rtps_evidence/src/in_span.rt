@@ -1,14 +1,13 @@
 ghost use Rattle.std.specs.Prelude.{ℕ, ◌≡◌, is_some, filter, map, IfOk, List};
 ghost use Rattle.rtps_ids.specs.declared.identity.Guid.{Guid as GuidValue};
-ghost use Rattle.rtps_receiver.specs.Values.{ActValue};
-ghost use Rattle.rtps_audit.specs.Delivery.{last_announced_from};
-ghost use Rattle.rtps_audit.specs.Placed.{PlacedValue, is_from, placed_in, placed_value};
-ghost use Rattle.rtps_audit.specs.Said.{IsSaid};
-ghost use Rattle.rtps_audit.specs.Speech.{speech_by};
+ghost use Rattle.rtps_receiver.specs.Values as values;
+ghost use Rattle.rtps_audit.specs.Delivery as delivery;
+ghost use Rattle.rtps_audit.specs.Placed as placed;
+ghost use Rattle.rtps_audit.specs.Said as said;
+ghost use Rattle.rtps_audit.specs.Speech as speech;
 ghost use Rattle.rtps_evidence.specs.Clean as clean_spec;
-ghost use Rattle.rtps_evidence.specs.Heard.{IsAnnounced, IsHeard};
-ghost use Rattle.rtps_coverage.specs.Rising.{AreRising};
-ghost use Rattle.rtps_evidence.specs.Spans.{since_of};
+ghost use Rattle.rtps_evidence.specs.Heard as heard;
+ghost use Rattle.rtps_coverage.specs.Rising as rising;
 ghost use Rattle.rtps_evidence.specs.Spans as spans_spec;
 
 use crate::acknowledgement::greatest_base;
@@ -84,7 +83,7 @@ fn is_open(verdict: &Verdict) -> bool
 
 /// Whether a writer announced numbers, and all of them stand before the first one that is asked for.
 fn wrote_before(announced: &Announced, from: FirstAsked) -> bool
-    ensures { (writer : GuidValue) (acts : List PlacedValue) → IsAnnounced writer (filter (is_from writer) acts) announced.now
+    ensures { (writer : GuidValue) (acts : List placed.PlacedValue) → heard.IsAnnounced writer (filter (placed.is_from writer) acts) announced.now
         → result ≡ spans_spec.wrote_before from writer acts }
 {
     0 < announced.last && announced.last < from.get()
@@ -101,12 +100,12 @@ impl Outcomes {
 
 impl InSpan {
     ghost use Rattle.std.specs.Prelude.{Bool};
-    ghost use Rattle.rtps_coverage.specs.Stretches.{stretches_have};
-    ghost use Rattle.rtps_evidence.specs.Evidence.{IsInSpan};
-    ghost use Rattle.rtps_evidence.specs.KindRuns.{AreSets};
-    ghost use Rattle.rtps_evidence.specs.Kinds.{AreLost, lost_value};
-    ghost use Rattle.rtps_evidence.specs.Outcomes.{AreOutcomes};
-    ghost use Rattle.rtps_evidence.specs.OtherSide.{AreThere, Beside};
+    ghost use Rattle.rtps_coverage.specs.Stretches as stretches;
+    ghost use Rattle.rtps_evidence.specs.Evidence as evidence;
+    ghost use Rattle.rtps_evidence.specs.KindRuns as kind_runs;
+    ghost use Rattle.rtps_evidence.specs.Kinds as kinds;
+    ghost use Rattle.rtps_evidence.specs.Outcomes as outcomes_spec;
+    ghost use Rattle.rtps_evidence.specs.OtherSide as other_side;
 
     /// What a row has beside, where rows are in spans, by what its pair said.
     pub(crate) fn of(
@@ -115,14 +114,14 @@ impl InSpan {
         sets: &OutcomeSets<'_, '_>,
         asked: &AskedNumbers,
     ) -> Result<InSpan, Memory>
-        requires rising { AreRising sets.now.unreceived.numbers.now }
+        requires rising { rising.AreRising sets.now.unreceived.numbers.now }
         requires from { asked.now.from ≡ exchange.now.span.from }
-        ensures { (all recording : List (List ActValue)) (beside : Beside) → IsSaid exchange.now.pair recording exchange.now.said
-            → AreThere all beside.other exchange.now.pair exchange.now.way exchange.now.is_held exchange.now.there.now → exchange.now.times.now.of_datagrams ≡ beside.times
-            → asked.now.last ≡ last_announced_from asked.now.from (speech_by exchange.now.pair.writer exchange.now.pair.reader recording)
-            → AreSets asked.now.from asked.now.last exchange.now.times.now.of_datagrams (since_of exchange.now.span) exchange.now.pair (placed_in recording) sets.now
-            → IsHeard exchange.now (map placed_value exchange.now.said.acts.now) sets.now.unreceived.heard.now
-            → IfOk result (IsInSpan exchange.now.span beside exchange.now.pair all recording) }
+        ensures { (all recording : List (List values.ActValue)) (beside : other_side.Beside) → said.IsSaid exchange.now.pair recording exchange.now.said
+            → other_side.AreThere all beside.other exchange.now.pair exchange.now.way exchange.now.is_held exchange.now.there.now → exchange.now.times.now.of_datagrams ≡ beside.times
+            → asked.now.last ≡ delivery.last_announced_from asked.now.from (speech.speech_by exchange.now.pair.writer exchange.now.pair.reader recording)
+            → kind_runs.AreSets asked.now.from asked.now.last exchange.now.times.now.of_datagrams (spans_spec.since_of exchange.now.span) exchange.now.pair (placed.placed_in recording) sets.now
+            → heard.IsHeard exchange.now (map placed.placed_value exchange.now.said.acts.now) sets.now.unreceived.heard.now
+            → IfOk result (evidence.IsInSpan exchange.now.span beside exchange.now.pair all recording) }
     {
         let heard = sets.unreceived.heard;
         let outcomes = Outcomes::of(alloc, exchange, sets, asked)?;
@@ -153,12 +152,12 @@ impl InSpan {
         sets: &OutcomeSets<'_, '_>,
         asked: &AskedNumbers,
     ) -> Result<LostNumbers, Memory>
-        ensures { (recording : List (List ActValue)) (there : ℕ → Bool) → IsSaid exchange.now.pair recording exchange.now.said
-            → ((n : ℕ) → stretches_have exchange.now.there.now n ≡ there n)
+        ensures { (recording : List (List values.ActValue)) (there : ℕ → Bool) → said.IsSaid exchange.now.pair recording exchange.now.said
+            → ((n : ℕ) → stretches.stretches_have exchange.now.there.now n ≡ there n)
             → self.now.is_held ≡ exchange.now.is_held
-            → AreOutcomes there asked.now.from asked.now.last exchange.now.times.now.of_datagrams (since_of exchange.now.span) exchange.now.pair (placed_in recording) self.now.outcomes
-            → AreSets asked.now.from asked.now.last exchange.now.times.now.of_datagrams (since_of exchange.now.span) exchange.now.pair (placed_in recording) sets.now
-            → IfOk result (λ lost. AreLost exchange.now.is_held there asked.now.from asked.now.last exchange.now.times.now.of_datagrams (since_of exchange.now.span) exchange.now.pair (placed_in recording) (lost_value lost)) }
+            → outcomes_spec.AreOutcomes there asked.now.from asked.now.last exchange.now.times.now.of_datagrams (spans_spec.since_of exchange.now.span) exchange.now.pair (placed.placed_in recording) self.now.outcomes
+            → kind_runs.AreSets asked.now.from asked.now.last exchange.now.times.now.of_datagrams (spans_spec.since_of exchange.now.span) exchange.now.pair (placed.placed_in recording) sets.now
+            → IfOk result (λ lost. kinds.AreLost exchange.now.is_held there asked.now.from asked.now.last exchange.now.times.now.of_datagrams (spans_spec.since_of exchange.now.span) exchange.now.pair (placed.placed_in recording) (kinds.lost_value lost)) }
     {
         if !self.is_held && self.outcomes.has_all() {
             return Ok(LostNumbers::none(alloc));

@@ -1,9 +1,9 @@
 ghost use Rattle.std.specs.Prelude.{false, ◌≡◌, IfOk, None};
-ghost use Rattle.rtps_audit.specs.Index.{IsIndexBy};
-ghost use Rattle.rtps_audit.specs.Intake.{Intake};
-ghost use Rattle.rtps_audit.specs.Report.{IsJudgedFrom};
-ghost use Rattle.rtps_evidence.specs.Evidence.{IsVerdictIn};
-ghost use Rattle.rtps_evidence.specs.Spans.{IsExtent};
+ghost use Rattle.rtps_audit.specs.Index as index_spec;
+ghost use Rattle.rtps_audit.specs.Intake as intake;
+ghost use Rattle.rtps_audit.specs.Report as report;
+ghost use Rattle.rtps_evidence.specs.Evidence as evidence;
+ghost use Rattle.rtps_evidence.specs.Spans as spans;
 
 use crate::span::Span;
 use rtps_audit::{FirstAsked, Index, Row, Verdict};
@@ -23,7 +23,7 @@ pub(crate) struct Judgement {
 
 /// What the row of a pair is by: its span, where rows are in spans, or else the whole recording.
 pub(crate) fn span_of(index: &Index<'_>, pair: Pair, from: SeqNum, in_spans: bool) -> Span
-    ensures { (intake : Intake) → IsIndexBy intake index.now → IsExtent in_spans from pair intake result }
+    ensures { (intake : intake.Intake) → index_spec.IsIndexBy intake index.now → spans.IsExtent in_spans from pair intake result }
 {
     if in_spans {
         Span::of(index, pair, from)
@@ -34,8 +34,8 @@ pub(crate) fn span_of(index: &Index<'_>, pair: Pair, from: SeqNum, in_spans: boo
 
 /// The verdict on a row's pair in its span, where this is the row of a report by the numbers from `from` on.
 fn verdict_on(index: &Index<'_>, row: Row, span: &Span, from: SeqNum) -> Result<Verdict, Memory>
-    ensures verdict { (intake : Intake) → IsIndexBy intake index.now → IsJudgedFrom from intake.acts row
-        → IfOk result (IsVerdictIn span.now row.pair intake.acts) }
+    ensures verdict { (intake : intake.Intake) → index_spec.IsIndexBy intake index.now → report.IsJudgedFrom from intake.acts row
+        → IfOk result (evidence.IsVerdictIn span.now row.pair intake.acts) }
     ensures same { span.now.from ≡ from → span.now.until ≡ None → IfOk result (λ verdict. verdict ≡ row.verdict) }
 {
     if span.from == FirstAsked::of(from) && span.until.is_none() {
@@ -54,10 +54,10 @@ impl Judgement {
     ) -> Result<Judgement, Memory>
         ensures pair { IfOk result (λ judgement. judgement.pair ≡ row.pair) }
         ensures in_spans { IfOk result (λ judgement. judgement.in_spans ≡ in_spans) }
-        ensures extent { (intake : Intake) → IsIndexBy intake index.now → IfOk result (λ judgement. IsExtent in_spans from row.pair intake judgement.span) }
-        ensures same { (intake : Intake) → IsIndexBy intake index.now → in_spans ≡ false → IfOk result (λ judgement. judgement.verdict ≡ row.verdict) }
-        ensures judged { (intake : Intake) → IsIndexBy intake index.now → IsJudgedFrom from intake.acts row
-            → IfOk result (λ judgement. IsVerdictIn judgement.span row.pair intake.acts judgement.verdict) }
+        ensures extent { (intake : intake.Intake) → index_spec.IsIndexBy intake index.now → IfOk result (λ judgement. spans.IsExtent in_spans from row.pair intake judgement.span) }
+        ensures same { (intake : intake.Intake) → index_spec.IsIndexBy intake index.now → in_spans ≡ false → IfOk result (λ judgement. judgement.verdict ≡ row.verdict) }
+        ensures judged { (intake : intake.Intake) → index_spec.IsIndexBy intake index.now → report.IsJudgedFrom from intake.acts row
+            → IfOk result (λ judgement. evidence.IsVerdictIn judgement.span row.pair intake.acts judgement.verdict) }
     {
         let span = span_of(index, row.pair, from, in_spans);
         let verdict = verdict_on(index, row, &span, from)?;

@@ -1,14 +1,14 @@
 ghost use Rattle.std.specs.Prelude.{ℕ, Bool, ◌≡◌, ◌≤◌, ◌+◌, ◌&&◌, not, take, IfOk, List};
-ghost use Rattle.rtps_receiver.specs.Values.{ActValue};
-ghost use Rattle.rtps_audit.specs.Placed.{PlacedValue, placed_in};
-ghost use Rattle.rtps_audit.specs.Said.{IsSaid};
+ghost use Rattle.rtps_receiver.specs.Values as values;
+ghost use Rattle.rtps_audit.specs.Placed as placed;
+ghost use Rattle.rtps_audit.specs.Said as said;
 ghost use Rattle.rtps_discovery.specs.declared.matching.Pair.{Pair as PairOf};
-ghost use Rattle.rtps_coverage.specs.Rising.{AreRising};
-ghost use Rattle.rtps_coverage.specs.Stretches.{stretches_have};
-ghost use Rattle.rtps_evidence.specs.Kinds.{AreLost, AreRunsOf, first_brought, kept_ranges, kind_value, lost_value, no_ranges, none_lost};
-ghost use Rattle.rtps_evidence.specs.KindRuns.{AreKindRuns, AreSent, AreSets, is_in_runs};
-ghost use Rattle.rtps_evidence.specs.Runs.{AreSendings};
-ghost use Rattle.rtps_evidence.specs.Spans.{since_of};
+ghost use Rattle.rtps_coverage.specs.Rising as rising_spec;
+ghost use Rattle.rtps_coverage.specs.Stretches as stretches;
+ghost use Rattle.rtps_evidence.specs.Kinds as kinds;
+ghost use Rattle.rtps_evidence.specs.KindRuns as kind_runs;
+ghost use Rattle.rtps_evidence.specs.Runs as runs;
+ghost use Rattle.rtps_evidence.specs.Spans as spans;
 
 use crate::amount::AskedNumbers;
 use crate::exchange::Exchange;
@@ -72,8 +72,8 @@ pub(crate) fn without(
     others: &[Stretch],
     asked: &AskedNumbers,
 ) -> Result<Vec<Stretch>, Memory>
-    ensures { IfOk result (λ left. (n : ℕ) → asked.now.from ≤ n → n ≤ asked.now.last → stretches_have left.items n
-        ≡ (stretches_have numbers.now n && not (stretches_have others.now n))) }
+    ensures { IfOk result (λ left. (n : ℕ) → asked.now.from ≤ n → n ≤ asked.now.last → stretches.stretches_have left.items n
+        ≡ (stretches.stretches_have numbers.now n && not (stretches.stretches_have others.now n))) }
 {
     let mut copy = Vec::from_slice(alloc, numbers)?;
     let left = not_there(alloc, &mut copy, others, asked)?;
@@ -87,7 +87,7 @@ fn common_runs(
     others: &[Stretch],
     asked: &AskedNumbers,
 ) -> Result<Vec<Stretch>, Memory>
-    ensures { IfOk result (λ runs. AreRunsOf (λ n. stretches_have numbers.now n && stretches_have others.now n) asked.now.from (asked.now.last + 1) runs.items) }
+    ensures { IfOk result (λ runs. kinds.AreRunsOf (λ n. stretches.stretches_have numbers.now n && stretches.stretches_have others.now n) asked.now.from (asked.now.last + 1) runs.items) }
 {
     let mut copy = Vec::from_slice(alloc, others)?;
     let outside = others_of(alloc, &mut copy, asked)?;
@@ -103,7 +103,7 @@ fn held_runs(
     is_held: bool,
     asked: &AskedNumbers,
 ) -> Result<Vec<Stretch>, Memory>
-    ensures { IfOk result (λ runs. AreRunsOf (λ n. is_held && stretches_have numbers.now n) asked.now.from (asked.now.last + 1) runs.items) }
+    ensures { IfOk result (λ runs. kinds.AreRunsOf (λ n. is_held && stretches.stretches_have numbers.now n) asked.now.from (asked.now.last + 1) runs.items) }
 {
     if !is_held {
         return Ok(Vec::new(alloc));
@@ -121,9 +121,9 @@ impl KindRuns {
         sets: &OutcomeSets<'_, '_>,
         asked: &AskedNumbers,
     ) -> Result<KindRuns, Memory>
-        ensures { (recording : List (List ActValue)) (there : ℕ → Bool) → ((n : ℕ) → stretches_have exchange.now.there.now n ≡ there n)
-            → AreSets asked.now.from asked.now.last exchange.now.times.now.of_datagrams (since_of exchange.now.span) exchange.now.pair (placed_in recording) sets.now
-            → IfOk result (AreKindRuns exchange.now.is_held there asked.now.from asked.now.last exchange.now.times.now.of_datagrams (since_of exchange.now.span) exchange.now.pair (placed_in recording)) }
+        ensures { (recording : List (List values.ActValue)) (there : ℕ → Bool) → ((n : ℕ) → stretches.stretches_have exchange.now.there.now n ≡ there n)
+            → kind_runs.AreSets asked.now.from asked.now.last exchange.now.times.now.of_datagrams (spans.since_of exchange.now.span) exchange.now.pair (placed.placed_in recording) sets.now
+            → IfOk result (kind_runs.AreKindRuns exchange.now.is_held there asked.now.from asked.now.last exchange.now.times.now.of_datagrams (spans.since_of exchange.now.span) exchange.now.pair (placed.placed_in recording)) }
     {
         let missed = sets.unreceived.missed;
         let lacking = without(alloc, sets.unreceived.numbers, exchange.there, asked)?;
@@ -143,8 +143,8 @@ impl KindRuns {
 
     /// All numbers of them, which rise.
     fn numbers(&self, alloc: Global) -> Result<Vec<Stretch>, Memory>
-        ensures rising { IfOk result (λ numbers. AreRising numbers.items) }
-        ensures all { IfOk result (λ numbers. (n : ℕ) → stretches_have numbers.items n ≡ is_in_runs self.now n) }
+        ensures rising { IfOk result (λ numbers. rising_spec.AreRising numbers.items) }
+        ensures all { IfOk result (λ numbers. (n : ℕ) → stretches.stretches_have numbers.items n ≡ kind_runs.is_in_runs self.now n) }
     {
         let mut all = Vec::from_slice(alloc, &self.missed)?;
         all.extend_from_slice(&self.unsent)?;
@@ -156,8 +156,8 @@ impl KindRuns {
 
     /// Where their numbers are sent first.
     fn sendings(&self, alloc: Global, exchange: &Exchange<'_, '_>) -> Result<Sendings, Memory>
-        ensures { (recording : List (List ActValue)) → IsSaid exchange.now.pair recording exchange.now.said
-            → IfOk result (AreSendings (is_in_runs self.now) (first_brought exchange.now.pair (placed_in recording))) }
+        ensures { (recording : List (List values.ActValue)) → said.IsSaid exchange.now.pair recording exchange.now.said
+            → IfOk result (runs.AreSendings (kind_runs.is_in_runs self.now) (kinds.first_brought exchange.now.pair (placed.placed_in recording))) }
     {
         let numbers = self.numbers(alloc)?;
         let sendings = Sendings::of(alloc, exchange.said.acts, exchange.pair, &numbers)?;
@@ -176,7 +176,7 @@ fn first_of(runs: &[Stretch]) -> &[Stretch]
 impl KindNumbers {
     /// No numbers.
     fn none(alloc: Global) -> KindNumbers
-        ensures { kind_value result ≡ no_ranges }
+        ensures { kinds.kind_value result ≡ kinds.no_ranges }
     {
         KindNumbers {
             ranges: Vec::new(alloc),
@@ -186,8 +186,8 @@ impl KindNumbers {
 
     /// These runs as ranges, where it is known where the first numbers of those that are kept are sent.
     fn of(alloc: Global, runs: &[Stretch], sendings: &Sendings) -> Result<KindNumbers, Memory>
-        ensures { (pair : PairOf) (acts : List PlacedValue) → AreSent pair acts sendings.now runs.now
-            → IfOk result (λ kind. kind_value kind ≡ kept_ranges pair acts runs.now) }
+        ensures { (pair : PairOf) (acts : List placed.PlacedValue) → kind_runs.AreSent pair acts sendings.now runs.now
+            → IfOk result (λ kind. kinds.kind_value kind ≡ kinds.kept_ranges pair acts runs.now) }
     {
         let kept = first_of(runs);
         let mut ranges = Vec::with_capacity(alloc, kept.len())?;
@@ -208,7 +208,7 @@ impl KindNumbers {
 impl LostNumbers {
     /// No numbers.
     pub(crate) fn none(alloc: Global) -> LostNumbers
-        ensures { lost_value result ≡ none_lost }
+        ensures { kinds.lost_value result ≡ kinds.none_lost }
     {
         LostNumbers {
             missed: KindNumbers::none(alloc),
@@ -226,10 +226,10 @@ impl LostNumbers {
         sets: &OutcomeSets<'_, '_>,
         asked: &AskedNumbers,
     ) -> Result<LostNumbers, Memory>
-        ensures { (recording : List (List ActValue)) (there : ℕ → Bool) → IsSaid exchange.now.pair recording exchange.now.said
-            → ((n : ℕ) → stretches_have exchange.now.there.now n ≡ there n)
-            → AreSets asked.now.from asked.now.last exchange.now.times.now.of_datagrams (since_of exchange.now.span) exchange.now.pair (placed_in recording) sets.now
-            → IfOk result (λ lost. AreLost exchange.now.is_held there asked.now.from asked.now.last exchange.now.times.now.of_datagrams (since_of exchange.now.span) exchange.now.pair (placed_in recording) (lost_value lost)) }
+        ensures { (recording : List (List values.ActValue)) (there : ℕ → Bool) → said.IsSaid exchange.now.pair recording exchange.now.said
+            → ((n : ℕ) → stretches.stretches_have exchange.now.there.now n ≡ there n)
+            → kind_runs.AreSets asked.now.from asked.now.last exchange.now.times.now.of_datagrams (spans.since_of exchange.now.span) exchange.now.pair (placed.placed_in recording) sets.now
+            → IfOk result (λ lost. kinds.AreLost exchange.now.is_held there asked.now.from asked.now.last exchange.now.times.now.of_datagrams (spans.since_of exchange.now.span) exchange.now.pair (placed.placed_in recording) (kinds.lost_value lost)) }
     {
         let runs = KindRuns::of(alloc, exchange, sets, asked)?;
         let sendings = runs.sendings(alloc, exchange)?;

@@ -1,9 +1,9 @@
 ghost use Rattle.std.specs.Prelude.{ℕ, ◌≡◌, ◌≤◌, not, filter, IfOk, List};
 ghost use Rattle.rtps_discovery.specs.declared.matching.Pair.{Pair as PairValue};
-ghost use Rattle.rtps_receiver.specs.Values.{ActValue};
-ghost use Rattle.rtps_audit.specs.Placed.{answers_among, is_from, placed_in};
-ghost use Rattle.rtps_coverage.specs.Stretches.{stretches_have};
-ghost use Rattle.rtps_evidence.specs.Claimed.{AreHeard, AreLacking};
+ghost use Rattle.rtps_receiver.specs.Values as values;
+ghost use Rattle.rtps_audit.specs.Placed as placed;
+ghost use Rattle.rtps_coverage.specs.Stretches as stretches_spec;
+ghost use Rattle.rtps_evidence.specs.Claimed as claimed;
 
 use crate::acknowledgement::greatest_base;
 use crate::amount::{AskedNumbers, HeardNumbers};
@@ -21,7 +21,7 @@ pub(crate) fn others_of(
     asked: &AskedNumbers,
 ) -> Result<Vec<Stretch>, Memory>
     ensures { IfOk result (λ rest. (n : ℕ) → asked.now.from ≤ n → n ≤ asked.now.last
-        → stretches_have rest.items n ≡ not (stretches_have stretches.old.items n)) }
+        → stretches_spec.stretches_have rest.items n ≡ not (stretches_spec.stretches_have stretches.old.items n)) }
 {
     stretches.sort_by_key(|stretch| stretch.lo)?;
     let from = asked.from.get();
@@ -35,7 +35,7 @@ fn asked_among(
     numbers: &[Stretch],
     asked: &AskedNumbers,
 ) -> Result<Vec<Stretch>, Memory>
-    ensures { IfOk result (λ among. (n : ℕ) → asked.now.from ≤ n → n ≤ asked.now.last → stretches_have among.items n ≡ stretches_have numbers.now n) }
+    ensures { IfOk result (λ among. (n : ℕ) → asked.now.from ≤ n → n ≤ asked.now.last → stretches_spec.stretches_have among.items n ≡ stretches_spec.stretches_have numbers.now n) }
 {
     let from = asked.from.get();
     let end = asked.last + 1;
@@ -60,9 +60,9 @@ impl HeardNumbers {
         answers: &[Answer],
         asked: &AskedNumbers,
     ) -> Result<Vec<Stretch>, Memory>
-        ensures { (pair : PairValue) (recording : List (List ActValue)) → answers.now ≡ answers_among pair (placed_in recording)
-            → AreHeard answers.now pair (filter (is_from pair.writer) (placed_in recording)) self.now
-            → IfOk result (λ lacking. AreLacking asked.now.from asked.now.last pair (placed_in recording) lacking.items) }
+        ensures { (pair : PairValue) (recording : List (List values.ActValue)) → answers.now ≡ placed.answers_among pair (placed.placed_in recording)
+            → claimed.AreHeard answers.now pair (filter (placed.is_from pair.writer) (placed.placed_in recording)) self.now
+            → IfOk result (λ lacking. claimed.AreLacking asked.now.from asked.now.last pair (placed.placed_in recording) lacking.items) }
     {
         let mut early = Vec::from_slice(alloc, &self.early)?;
         let mut numbers = others_of(alloc, &mut early, asked)?;

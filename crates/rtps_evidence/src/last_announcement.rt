@@ -1,6 +1,6 @@
 ghost use Rattle.std.specs.Prelude.{◌≡◌, ◌<◌, ◌^◌};
-ghost use Rattle.rtps_audit.specs.Placed.{placed_value};
-ghost use Rattle.rtps_evidence.specs.Locations.{announcement_at};
+ghost use Rattle.rtps_audit.specs.Placed as placed_spec;
+ghost use Rattle.rtps_evidence.specs.Locations as locations;
 
 use crate::amount::AskedNumbers;
 use crate::location::{Kind, Location, kind_of, location_of};
@@ -30,7 +30,7 @@ pub(crate) struct Announced {
 /// What an act announces, where that is this number.
 fn announcing(placed: &Placed<'_>, number: u64) -> Announcement
     requires { number < 2 ^ 63 }
-    ensures { result ≡ announcement_at number (placed_value placed.now) }
+    ensures { result ≡ locations.announcement_at number (placed_spec.placed_value placed.now) }
 {
     Announcement {
         number: number.cast_signed(),
@@ -42,13 +42,11 @@ fn announcing(placed: &Placed<'_>, number: u64) -> Announcement
 impl Announced {
     ghost use Rattle.std.specs.Prelude.{◌-◌, ◌++◌, ◌∷◌, [], max, List};
     ghost use Rattle.rtps_ids.specs.declared.identity.Guid.{Guid as GuidValue};
-    ghost use Rattle.rtps_audit.specs.Placed.{PlacedValue};
-    ghost use Rattle.rtps_evidence.specs.Heard.{IsAnnounced};
-    ghost use Rattle.rtps_evidence.specs.Locations.{announcement_of};
+    ghost use Rattle.rtps_evidence.specs.Heard as heard;
 
     /// Nothing was said.
     pub(crate) fn new() -> Announced
-        ensures { (writer : GuidValue) → IsAnnounced writer [] result }
+        ensures { (writer : GuidValue) → heard.IsAnnounced writer [] result }
     {
         Announced {
             last: 0,
@@ -58,7 +56,7 @@ impl Announced {
 
     /// Is told an act more of the writer.
     pub(crate) fn hear(&mut self, placed: &Placed<'_>, writer: Guid)
-        ensures { (acts : List PlacedValue) → IsAnnounced writer acts self.old → IsAnnounced writer (acts ++ placed_value placed.now ∷ []) self.new }
+        ensures { (acts : List placed_spec.PlacedValue) → heard.IsAnnounced writer acts self.old → heard.IsAnnounced writer (acts ++ placed_spec.placed_value placed.now ∷ []) self.new }
     {
         let last = announced_number(&placed.act, writer);
         if last <= self.last {
@@ -82,8 +80,8 @@ impl Announced {
 
     /// The first act that announces the last of them; None where there are none.
     pub(crate) fn first_from(&self, from: FirstAsked) -> Option<Announcement>
-        ensures { (writer : GuidValue) (acts : List PlacedValue) → IsAnnounced writer acts self.now
-            → result ≡ announcement_of from writer (max self.now.last (from - 1)) acts }
+        ensures { (writer : GuidValue) (acts : List placed_spec.PlacedValue) → heard.IsAnnounced writer acts self.now
+            → result ≡ locations.announcement_of from writer (max self.now.last (from - 1)) acts }
     {
         if self.last < from.get() {
             return None;

@@ -2,13 +2,13 @@ ghost use Rattle.std.specs.Prelude.{ℕ, ◌≡◌, ◌==◌, ◌≤◌, ◌&&�
 ghost use Rattle.std.specs.BTreeMap.{get};
 ghost use Rattle.std.specs.Option.{option_or};
 ghost use Rattle.std.specs.Ordering.{nat_cmp};
-ghost use Rattle.rtps_receiver.specs.Said.{numbers_have};
-ghost use Rattle.rtps_audit.specs.Placed.{placed_value};
-ghost use Rattle.rtps_coverage.specs.Rising.{AreRising};
-ghost use Rattle.rtps_coverage.specs.Stretches.{stretches_have};
-ghost use Rattle.rtps_evidence.specs.LastAsks.{ask_at, last_ask};
-ghost use Rattle.rtps_evidence.specs.Locations.{base_said};
-ghost use Rattle.rtps_evidence.specs.LostAnswers.{lacks_by_answer};
+ghost use Rattle.rtps_receiver.specs.Said as said;
+ghost use Rattle.rtps_audit.specs.Placed as placed_spec;
+ghost use Rattle.rtps_coverage.specs.Rising as rising;
+ghost use Rattle.rtps_coverage.specs.Stretches as stretches;
+ghost use Rattle.rtps_evidence.specs.LastAsks as last_asks;
+ghost use Rattle.rtps_evidence.specs.Locations as locations;
+ghost use Rattle.rtps_evidence.specs.LostAnswers as lost_answers;
 
 use crate::location::{Location, location_of};
 use rtps_audit::Placed;
@@ -38,7 +38,7 @@ struct Wanted<'n> {
 
 /// The base by which an act of the pair's reader answers its writer, or 0.
 fn base_of(placed: &Placed<'_>, pair: Pair) -> u64
-    ensures { result ≡ base_said pair.writer pair.reader (placed_value placed.now) }
+    ensures { result ≡ locations.base_said pair.writer pair.reader (placed_spec.placed_value placed.now) }
 {
     if !placed.act.answers(pair.reader, pair.writer) {
         return 0;
@@ -60,9 +60,9 @@ fn note_number(
     ask: LastAsk,
     numbers: &[Stretch],
 ) -> Result<(), Memory>
-    requires { AreRising numbers.now }
+    requires { rising.AreRising numbers.now }
     ensures { OnOk result ((n : ℕ) → get nat_cmp asks.new n
-        ≡ option_or (get nat_cmp asks.old n) (if (number == n) && stretches_have numbers.now n then Some ask else None)) }
+        ≡ option_or (get nat_cmp asks.old n) (if (number == n) && stretches.stretches_have numbers.now n then Some ask else None)) }
 {
     if end_at(numbers, number) <= number {
         return Ok(());
@@ -81,10 +81,10 @@ fn note_range(
     ask: LastAsk,
     numbers: &[Stretch],
 ) -> Result<(), Memory>
-    requires rising { AreRising numbers.now }
+    requires rising { rising.AreRising numbers.now }
     requires ordered { range.now.start ≤ range.now.end }
     ensures { OnOk result ((n : ℕ) → get nat_cmp asks.new n
-        ≡ option_or (get nat_cmp asks.old n) (if (nat_le range.now.start n && nat_lt n range.now.end) && stretches_have numbers.now n then Some ask else None)) }
+        ≡ option_or (get nat_cmp asks.old n) (if (nat_le range.now.start n && nat_lt n range.now.end) && stretches.stretches_have numbers.now n then Some ask else None)) }
 {
     for number in range.start..range.end {
         note_number(asks, number, ask, numbers)?;
@@ -99,9 +99,9 @@ fn note_numbers(
     ask: LastAsk,
     numbers: &[Stretch],
 ) -> Result<(), Memory>
-    requires { AreRising numbers.now }
+    requires { rising.AreRising numbers.now }
     ensures { OnOk result ((n : ℕ) → get nat_cmp asks.new n
-        ≡ option_or (get nat_cmp asks.old n) (if numbers_have named.now n && stretches_have numbers.now n then Some ask else None)) }
+        ≡ option_or (get nat_cmp asks.old n) (if said.numbers_have named.now n && stretches.stretches_have numbers.now n then Some ask else None)) }
 {
     let mut at = 0;
     'apart: while let Some(range) = named.range_from(at) {
@@ -118,10 +118,10 @@ fn note_act(
     below: u64,
     wanted: &Wanted<'_>,
 ) -> Result<(), Memory>
-    requires { AreRising wanted.now.numbers.now }
+    requires { rising.AreRising wanted.now.numbers.now }
     ensures { OnOk result ((n : ℕ) → get nat_cmp asks.new n
-        ≡ option_or (get nat_cmp asks.old n) (if lacks_by_answer wanted.now.pair.writer wanted.now.pair.reader n (placed_value placed.now) && stretches_have wanted.now.numbers.now n
-        then Some (ask_at below (placed_value placed.now)) else None)) }
+        ≡ option_or (get nat_cmp asks.old n) (if lost_answers.lacks_by_answer wanted.now.pair.writer wanted.now.pair.reader n (placed_spec.placed_value placed.now) && stretches.stretches_have wanted.now.numbers.now n
+        then Some (last_asks.ask_at below (placed_spec.placed_value placed.now)) else None)) }
 {
     if !placed.act.answers(wanted.pair.reader, wanted.pair.writer) {
         return Ok(());
@@ -141,8 +141,8 @@ pub(crate) fn last_asks(
     pair: Pair,
     numbers: &[Stretch],
 ) -> Result<BTreeMap<u64, LastAsk>, Memory>
-    requires { AreRising numbers.now }
-    ensures { IfOk result (λ asks. (n : ℕ) → get nat_cmp asks n ≡ (if stretches_have numbers.now n then last_ask pair (map placed_value acts.now) n else None)) }
+    requires { rising.AreRising numbers.now }
+    ensures { IfOk result (λ asks. (n : ℕ) → get nat_cmp asks n ≡ (if stretches.stretches_have numbers.now n then last_asks.last_ask pair (map placed_spec.placed_value acts.now) n else None)) }
 {
     let wanted = Wanted { pair, numbers };
     let mut asks = BTreeMap::new(alloc);

@@ -1,13 +1,13 @@
 ghost use Rattle.std.specs.Prelude.{ℕ, Bool, ◌≡◌, ◌<◌, ◌^◌, ◌++◌, ◌∷◌, [], map, not, IfOk, OnOk, List};
-ghost use Rattle.rtps_receiver.specs.Values.{ActValue};
-ghost use Rattle.rtps_audit.specs.Placed.{PlacedValue, placed_in, placed_value};
-ghost use Rattle.rtps_audit.specs.Said.{IsSaid};
-ghost use Rattle.rtps_coverage.specs.Rising.{AreRising};
-ghost use Rattle.rtps_coverage.specs.Stretches.{stretches_have};
-ghost use Rattle.rtps_evidence.specs.Ledger.{Stands};
-ghost use Rattle.rtps_evidence.specs.Missed.{is_unmet};
-ghost use Rattle.rtps_evidence.specs.Received.{is_received};
-ghost use Rattle.rtps_evidence.specs.Spans.{since_of};
+ghost use Rattle.rtps_receiver.specs.Values as values;
+ghost use Rattle.rtps_audit.specs.Placed as placed_spec;
+ghost use Rattle.rtps_audit.specs.Said as said;
+ghost use Rattle.rtps_coverage.specs.Rising as rising;
+ghost use Rattle.rtps_coverage.specs.Stretches as stretches;
+ghost use Rattle.rtps_evidence.specs.Ledger as ledger;
+ghost use Rattle.rtps_evidence.specs.Missed as missed;
+ghost use Rattle.rtps_evidence.specs.Received as received;
+ghost use Rattle.rtps_evidence.specs.Spans as spans;
 ghost use Rattle.rtps_evidence.specs.declared.exchange.Exchange.{Exchange as ExchangeValue};
 
 use crate::brought::push_brought;
@@ -41,8 +41,8 @@ impl Ledger {
         exchange: &Exchange<'_, '_>,
         lacking: &[Stretch],
     ) -> Result<Ledger, Memory>
-        requires { AreRising lacking.now }
-        ensures { IfOk result (Stands exchange.now (stretches_have lacking.now) []) }
+        requires { rising.AreRising lacking.now }
+        ensures { IfOk result (ledger.Stands exchange.now (stretches.stretches_have lacking.now) []) }
     {
         Ok(Ledger {
             requests: requests_of(alloc, exchange, lacking)?,
@@ -58,9 +58,9 @@ impl Ledger {
         exchange: &Exchange<'_, '_>,
         lacking: &[Stretch],
     ) -> Result<(), Memory>
-        requires { AreRising lacking.now }
-        ensures { OnOk result ((acts : List PlacedValue) → Stands exchange.now (stretches_have lacking.now) acts self.old
-            → Stands exchange.now (stretches_have lacking.now) (acts ++ placed_value placed.now ∷ []) self.new) }
+        requires { rising.AreRising lacking.now }
+        ensures { OnOk result ((acts : List placed_spec.PlacedValue) → ledger.Stands exchange.now (stretches.stretches_have lacking.now) acts self.old
+            → ledger.Stands exchange.now (stretches.stretches_have lacking.now) (acts ++ placed_spec.placed_value placed.now ∷ []) self.new) }
     {
         let listener = exchange.listener();
         note_bringing(&mut self.requests, placed, &listener)?;
@@ -74,8 +74,8 @@ impl Ledger {
         exchange: &Exchange<'_, '_>,
         lacking: &[Stretch],
     ) -> Result<Ledger, Memory>
-        requires { AreRising lacking.now }
-        ensures { IfOk result (Stands exchange.now (stretches_have lacking.now) (map placed_value exchange.now.said.acts.now)) }
+        requires { rising.AreRising lacking.now }
+        ensures { IfOk result (ledger.Stands exchange.now (stretches.stretches_have lacking.now) (map placed_spec.placed_value exchange.now.said.acts.now)) }
     {
         let mut ledger = Ledger::new(alloc, exchange, lacking)?;
         if lacking.is_empty() {
@@ -89,11 +89,11 @@ impl Ledger {
 
     /// The numbers that the reader asks for in vain, of those that it lacks.
     pub(crate) fn unmet(&self, alloc: Global) -> Result<Vec<Stretch>, Memory>
-        ensures { (exchange : ExchangeValue) (lacks : ℕ → Bool) (recording : List (List ActValue)) → IsSaid exchange.pair recording exchange.said
-            → Stands exchange lacks (map placed_value exchange.said.acts.now) self.now → (n : ℕ) → n < 2 ^ 63
-            → lacks n ≡ not (is_received exchange.pair.writer exchange.pair.reader (placed_in recording) n)
-            → IfOk result (λ unmet. stretches_have unmet.items n
-            ≡ is_unmet (since_of exchange.span) exchange.pair.writer exchange.pair.reader (placed_in recording) n) }
+        ensures { (exchange : ExchangeValue) (lacks : ℕ → Bool) (recording : List (List values.ActValue)) → said.IsSaid exchange.pair recording exchange.said
+            → ledger.Stands exchange lacks (map placed_spec.placed_value exchange.said.acts.now) self.now → (n : ℕ) → n < 2 ^ 63
+            → lacks n ≡ not (received.is_received exchange.pair.writer exchange.pair.reader (placed_spec.placed_in recording) n)
+            → IfOk result (λ unmet. stretches.stretches_have unmet.items n
+            ≡ missed.is_unmet (spans.since_of exchange.span) exchange.pair.writer exchange.pair.reader (placed_spec.placed_in recording) n) }
     {
         in_vain(alloc, &self.requests)
     }

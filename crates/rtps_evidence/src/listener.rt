@@ -1,7 +1,6 @@
 ghost use Rattle.std.specs.Prelude.{ℕ, ◌≡◌, ◌<◌, ◌^◌, is_some, IfSome};
-ghost use Rattle.rtps_audit.specs.Placed.{placed_value};
-ghost use Rattle.rtps_receiver.specs.Said.{is_at};
-ghost use Rattle.rtps_evidence.specs.Missed.{brings_behind, brings_some};
+ghost use Rattle.rtps_audit.specs.Placed as placed_spec;
+ghost use Rattle.rtps_receiver.specs.Said as said;
 ghost use Rattle.rtps_evidence.specs.Missed as missed;
 
 use crate::location::{Location, is_behind};
@@ -19,8 +18,8 @@ pub(crate) struct Listener {
 /// The number of the payload that the pair's reader hears by an act since it is there, or of which it hears fragments.
 pub(crate) fn number_behind(placed: &Placed<'_>, listener: &Listener) -> Option<u64>
     ensures in_range { IfSome result (λ number. number < 2 ^ 63) }
-    ensures some { is_some result ≡ brings_some listener.now.since listener.now.pair.writer listener.now.pair.reader (placed_value placed.now) }
-    ensures brought { (n : ℕ) → brings_behind listener.now.since listener.now.pair.writer listener.now.pair.reader n (placed_value placed.now) ≡ is_at n result }
+    ensures some { is_some result ≡ missed.brings_some listener.now.since listener.now.pair.writer listener.now.pair.reader (placed_spec.placed_value placed.now) }
+    ensures brought { (n : ℕ) → missed.brings_behind listener.now.since listener.now.pair.writer listener.now.pair.reader n (placed_spec.placed_value placed.now) ≡ said.is_at n result }
 {
     if is_behind(listener.since, placed) {
         said_to(placed, listener.pair).brought
@@ -31,7 +30,7 @@ pub(crate) fn number_behind(placed: &Placed<'_>, listener: &Listener) -> Option<
 
 /// Whether the reader hears, by an act, a payload for the number, or a fragment of one.
 pub(crate) fn brings(placed: &Placed<'_>, pair: Pair, number: u64) -> bool
-    ensures { result ≡ missed.brings pair.writer pair.reader number (placed_value placed.now) }
+    ensures { result ≡ missed.brings pair.writer pair.reader number (placed_spec.placed_value placed.now) }
 {
     said_to(placed, pair).brought == Some(number)
 }

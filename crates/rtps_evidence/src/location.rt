@@ -1,6 +1,6 @@
 ghost use Rattle.std.specs.Prelude.{◌≡◌};
-ghost use Rattle.rtps_receiver.specs.Values.{spoken_body_value};
-ghost use Rattle.rtps_audit.specs.Placed.{placed_value};
+ghost use Rattle.rtps_receiver.specs.Values as values;
+ghost use Rattle.rtps_audit.specs.Placed as placed_spec;
 ghost use Rattle.rtps_evidence.specs.Locations as locations;
 ghost use Rattle.rtps_evidence.specs.Waits as waits;
 
@@ -29,7 +29,7 @@ pub enum Kind {
 
 /// Where an act stands.
 pub(crate) fn location_of(placed: &Placed<'_>) -> Location
-    ensures { result ≡ locations.location_of (placed_value placed.now) }
+    ensures { result ≡ locations.location_of (placed_spec.placed_value placed.now) }
 {
     Location {
         datagram: placed.datagram as u64,
@@ -40,7 +40,7 @@ pub(crate) fn location_of(placed: &Placed<'_>) -> Location
 /// Whether an act stands behind a place: in a later datagram, or as a later submessage of the same one. Behind no place stands
 /// all.
 pub(crate) fn is_behind(place: Option<Location>, placed: &Placed<'_>) -> bool
-    ensures { result ≡ locations.is_behind place (placed_value placed.now) }
+    ensures { result ≡ locations.is_behind place (placed_spec.placed_value placed.now) }
 {
     let Some(place) = place else {
         return true;
@@ -51,7 +51,7 @@ pub(crate) fn is_behind(place: Option<Location>, placed: &Placed<'_>) -> bool
 
 /// Whether an act stands before a place: in an earlier datagram, or as an earlier submessage of the same one.
 pub(crate) fn is_before(place: Location, placed: &Placed<'_>) -> bool
-    ensures { result ≡ locations.is_before place (placed_value placed.now) }
+    ensures { result ≡ locations.is_before place (placed_spec.placed_value placed.now) }
 {
     let datagram = placed.datagram as u64;
     datagram < place.datagram || (datagram == place.datagram && placed.act.at < place.at)
@@ -66,14 +66,14 @@ pub(crate) fn precedes(one: Location, other: Location) -> bool
 
 /// Whether an act is a GAP.
 pub(crate) fn is_gap(body: &SpokenBody<'_>) -> bool
-    ensures { result ≡ locations.is_gap (spoken_body_value body.now) }
+    ensures { result ≡ locations.is_gap (values.spoken_body_value body.now) }
 {
     matches!(body, SpokenBody::Act(ActBody::Gap(_)))
 }
 
 /// Which submessage an act is.
 pub(crate) fn kind_of(body: &SpokenBody<'_>) -> Kind
-    ensures { result ≡ locations.kind_of (spoken_body_value body.now) }
+    ensures { result ≡ locations.kind_of (values.spoken_body_value body.now) }
 {
     match body {
         SpokenBody::Act(ActBody::Data(_)) => Kind::Data,

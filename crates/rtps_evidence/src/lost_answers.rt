@@ -1,8 +1,8 @@
-ghost use Rattle.std.specs.Prelude.{◌≡◌, ◌≤◌, find, length, slice_get, take, filter, map, IfOk, List, None};
+ghost use Rattle.std.specs.Prelude.{◌≡◌, find, slice_get, take, filter, map, IfOk, List, None};
 ghost use Rattle.std.specs.List.{last_or};
-ghost use Rattle.rtps_receiver.specs.Values.{ActValue};
-ghost use Rattle.rtps_audit.specs.Placed.{is_from, placed_in, placed_value};
-ghost use Rattle.rtps_evidence.specs.CountedAnswers.{HasPassedCounted, counted_among, lacks_counted, stands_behind};
+ghost use Rattle.rtps_receiver.specs.Values as values;
+ghost use Rattle.rtps_audit.specs.Placed as placed;
+ghost use Rattle.rtps_evidence.specs.CountedAnswers as counted_answers_spec;
 
 use crate::counted_answers::{CountedAnswer, counted_answers, lacks_between};
 use crate::location::{Location, precedes};
@@ -14,9 +14,9 @@ use std::marker::Model;
 
 /// The first of these answers that stands behind a place, where those before this one do not.
 fn pass_counted(answers: &[CountedAnswer], passed: usize, place: Location) -> usize
-    requires { HasPassedCounted answers.now passed place }
-    ensures passed { HasPassedCounted answers.now result place }
-    ensures next { find (stands_behind place) answers.now ≡ slice_get answers.now result }
+    requires { counted_answers_spec.HasPassedCounted answers.now passed place }
+    ensures passed { counted_answers_spec.HasPassedCounted answers.now result place }
+    ensures next { find (counted_answers_spec.stands_behind place) answers.now ≡ slice_get answers.now result }
 {
     for next in passed..answers.len() {
         if precedes(place, answers[next].place) {
@@ -29,7 +29,7 @@ fn pass_counted(answers: &[CountedAnswer], passed: usize, place: Location) -> us
 /// Whether an answer lacks between this one and the one in front of it, where there are both.
 #[tactic(auto, using(crate::proofs::LackLemmas::none_in_front_of, crate::proofs::LackLemmas::none_at, crate::proofs::LackLemmas::both_at))]
 fn lacks_before(answers: &[CountedAnswer], next: usize) -> bool
-    ensures { result ≡ lacks_counted (last_or None (take next answers.now)) (slice_get answers.now next) }
+    ensures { result ≡ counted_answers_spec.lacks_counted (last_or None (take next answers.now)) (slice_get answers.now next) }
 {
     if next == 0 || answers.len() <= next {
         return false;
@@ -49,22 +49,20 @@ pub(crate) struct LostAnswers {
 impl Model for LostAnswers {
     ghost use Rattle.std.specs.Prelude.{List};
     ghost use Rattle.rtps_evidence.specs.declared.counted_answers.CountedAnswer.{CountedAnswer as CountedValue};
-    ghost use Rattle.rtps_evidence.specs.CountedAnswers.{HasPassedCounted};
+    ghost use Rattle.rtps_evidence.specs.CountedAnswers as counted_answers_spec;
 
     ghost Value = { List CountedValue };
 
     ghost view = { λ lost. lost.answers.items };
 
-    ghost invariant = { λ lost. HasPassedCounted lost.answers.items lost.passed lost.place };
+    ghost invariant = { λ lost. counted_answers_spec.HasPassedCounted lost.answers.items lost.passed lost.place };
 }
 
 impl LostAnswers {
-    ghost use Rattle.rtps_evidence.specs.CountedAnswers.{lacks_among};
-
     /// The walk over those of a pair among the acts of its reader. It stands in front of all.
     pub(crate) fn of(alloc: Global, acts: &[Placed<'_>], pair: Pair) -> Result<LostAnswers, Memory>
-        ensures { (recording : List (List ActValue)) → map placed_value acts.now ≡ filter (is_from pair.reader) (placed_in recording)
-            → IfOk result (λ lost. lost ≡ counted_among pair (map placed_value acts.now)) }
+        ensures { (recording : List (List values.ActValue)) → map placed.placed_value acts.now ≡ filter (placed.is_from pair.reader) (placed.placed_in recording)
+            → IfOk result (λ lost. lost ≡ counted_answers_spec.counted_among pair (map placed.placed_value acts.now)) }
     {
         Ok(LostAnswers {
             answers: counted_answers(alloc, acts, pair)?,
@@ -76,7 +74,7 @@ impl LostAnswers {
     /// Whether an answer lacks around a place: between the first one behind it and the one in front of that. The walk goes on to it, where the
     /// place does not stand before the one that was asked for at last; else it begins anew.
     pub(crate) fn lacks_around(&mut self, place: Location) -> bool
-        ensures lacks { result ≡ lacks_among self.old place }
+        ensures lacks { result ≡ counted_answers_spec.lacks_among self.old place }
         ensures same { self.new ≡ self.old }
     {
         let passed = if precedes(place, self.place) {

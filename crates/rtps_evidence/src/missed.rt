@@ -1,11 +1,11 @@
 ghost use Rattle.std.specs.Prelude.{ℕ, Bool, ◌≡◌, ◌≤◌, ◌+◌, ◌&&◌, not, IfOk, List};
-ghost use Rattle.rtps_receiver.specs.Values.{ActValue};
-ghost use Rattle.rtps_audit.specs.Placed.{placed_in};
-ghost use Rattle.rtps_audit.specs.Said.{IsSaid};
-ghost use Rattle.rtps_coverage.specs.Stretches.{stretches_have};
-ghost use Rattle.rtps_evidence.specs.Missed.{AreMissed, is_missed, missed_by};
-ghost use Rattle.rtps_evidence.specs.Received.{least_in};
-ghost use Rattle.rtps_evidence.specs.Spans.{since_of};
+ghost use Rattle.rtps_receiver.specs.Values as values;
+ghost use Rattle.rtps_audit.specs.Placed as placed;
+ghost use Rattle.rtps_audit.specs.Said as said;
+ghost use Rattle.rtps_coverage.specs.Stretches as stretches;
+ghost use Rattle.rtps_evidence.specs.Missed as missed_spec;
+ghost use Rattle.rtps_evidence.specs.Received as received;
+ghost use Rattle.rtps_evidence.specs.Spans as spans;
 
 use crate::amount::AskedNumbers;
 use crate::exchange::Exchange;
@@ -31,8 +31,8 @@ pub(crate) fn not_there(
     there: &[Stretch],
     asked: &AskedNumbers,
 ) -> Result<Vec<Stretch>, Memory>
-    ensures { IfOk result (λ left. (n : ℕ) → asked.now.from ≤ n → n ≤ asked.now.last → stretches_have left.items n
-        ≡ (stretches_have numbers.old.items n && not (stretches_have there.now n))) }
+    ensures { IfOk result (λ left. (n : ℕ) → asked.now.from ≤ n → n ≤ asked.now.last → stretches.stretches_have left.items n
+        ≡ (stretches.stretches_have numbers.old.items n && not (stretches.stretches_have there.now n))) }
 {
     let mut others = others_of(alloc, numbers, asked)?;
     others.extend_from_slice(there)?;
@@ -46,8 +46,8 @@ fn first_among(
     exchange: &Exchange<'_, '_>,
     asked: &AskedNumbers,
 ) -> Option<FirstMissed>
-    ensures { (recording : List (List ActValue)) → IsSaid exchange.now.pair recording exchange.now.said
-        → result ≡ missed_by exchange.now.pair.writer exchange.now.pair.reader (placed_in recording) (least_in (stretches_have numbers.now) asked.now.from (asked.now.last + 1)) }
+    ensures { (recording : List (List values.ActValue)) → said.IsSaid exchange.now.pair recording exchange.now.said
+        → result ≡ missed_spec.missed_by exchange.now.pair.writer exchange.now.pair.reader (placed.placed_in recording) (received.least_in (stretches.stretches_have numbers.now) asked.now.from (asked.now.last + 1)) }
 {
     let from = asked.from.get();
     let end = asked.last + 1;
@@ -66,11 +66,11 @@ pub(crate) fn count_missed(
     exchange: &Exchange<'_, '_>,
     asked: &AskedNumbers,
 ) -> Result<Missed, Memory>
-    ensures { (recording : List (List ActValue)) (there : ℕ → Bool) → IsSaid exchange.now.pair recording exchange.now.said
-        → ((n : ℕ) → stretches_have exchange.now.there.now n ≡ there n)
-        → ((n : ℕ) → asked.now.from ≤ n → n ≤ asked.now.last → stretches_have missed.old.items n
-        ≡ is_missed (since_of exchange.now.span) exchange.now.pair.writer exchange.now.pair.reader (placed_in recording) n)
-        → IfOk result (AreMissed there asked.now.from asked.now.last (since_of exchange.now.span) exchange.now.pair.writer exchange.now.pair.reader (placed_in recording)) }
+    ensures { (recording : List (List values.ActValue)) (there : ℕ → Bool) → said.IsSaid exchange.now.pair recording exchange.now.said
+        → ((n : ℕ) → stretches.stretches_have exchange.now.there.now n ≡ there n)
+        → ((n : ℕ) → asked.now.from ≤ n → n ≤ asked.now.last → stretches.stretches_have missed.old.items n
+        ≡ missed_spec.is_missed (spans.since_of exchange.now.span) exchange.now.pair.writer exchange.now.pair.reader (placed.placed_in recording) n)
+        → IfOk result (missed_spec.AreMissed there asked.now.from asked.now.last (spans.since_of exchange.now.span) exchange.now.pair.writer exchange.now.pair.reader (placed.placed_in recording)) }
 {
     let mut left = not_there(alloc, missed, exchange.there, asked)?;
     let first = first_among(&left, exchange, asked);

@@ -1,16 +1,14 @@
-ghost use Rattle.std.specs.Prelude.{ℕ, ◌≡◌, ◌==◌, ◌≤◌, ◌<◌, ◌^◌, ◌&&◌, nat_le, nat_lt, if◌then◌else◌, map, IfOk, OnOk, Some, None};
+ghost use Rattle.std.specs.Prelude.{ℕ, ◌≡◌, ◌==◌, ◌≤◌, ◌<◌, ◌^◌, ◌&&◌, nat_le, nat_lt, if◌then◌else◌, map, IfOk, OnOk, Some};
 ghost use Rattle.std.specs.BTreeMap.{get};
 ghost use Rattle.std.specs.Ordering.{nat_cmp};
 ghost use Rattle.std.specs.Option.{option_map};
-ghost use Rattle.rtps_receiver.specs.Said.{numbers_have};
-ghost use Rattle.rtps_audit.specs.Placed.{placed_value};
-ghost use Rattle.rtps_coverage.specs.Stretches.{stretches_have};
+ghost use Rattle.rtps_receiver.specs.Said as said;
+ghost use Rattle.rtps_audit.specs.Placed as placed_spec;
+ghost use Rattle.rtps_coverage.specs.Stretches as stretches;
 ghost use Rattle.rtps_evidence.specs.Locations as locations;
-ghost use Rattle.rtps_evidence.specs.Missed.{asks_for};
-ghost use Rattle.rtps_evidence.specs.Requests.{met_by, requested};
+ghost use Rattle.rtps_evidence.specs.Missed as missed;
 ghost use Rattle.rtps_evidence.specs.Requests as requests_spec;
-ghost use Rattle.rtps_coverage.specs.Rising.{AreRising};
-ghost use Rattle.rtps_evidence.specs.Requests.{option_any};
+ghost use Rattle.rtps_coverage.specs.Rising as rising;
 
 use crate::exchange::Exchange;
 use crate::listener::Listener;
@@ -55,9 +53,9 @@ fn note_number(
     place: Location,
     lacking: &[Stretch],
 ) -> Result<(), Memory>
-    requires { AreRising lacking.now }
+    requires { rising.AreRising lacking.now }
     ensures { OnOk result ((n : ℕ) → get nat_cmp requests.new n
-        ≡ (if (number == n) && stretches_have lacking.now n then Some (requests_spec.new_request place) else get nat_cmp requests.old n)) }
+        ≡ (if (number == n) && stretches.stretches_have lacking.now n then Some (requests_spec.new_request place) else get nat_cmp requests.old n)) }
 {
     if number < end_at(lacking, number) {
         requests.insert(number, new_request(place))?;
@@ -72,10 +70,10 @@ fn note_range(
     place: Location,
     lacking: &[Stretch],
 ) -> Result<(), Memory>
-    requires rising { AreRising lacking.now }
+    requires rising { rising.AreRising lacking.now }
     requires ordered { numbers.now.start ≤ numbers.now.end }
     ensures { OnOk result ((n : ℕ) → get nat_cmp requests.new n
-        ≡ (if (nat_le numbers.now.start n && nat_lt n numbers.now.end) && stretches_have lacking.now n then Some (requests_spec.new_request place)
+        ≡ (if (nat_le numbers.now.start n && nat_lt n numbers.now.end) && stretches.stretches_have lacking.now n then Some (requests_spec.new_request place)
         else get nat_cmp requests.old n)) }
 {
     for number in numbers.start..numbers.end {
@@ -91,9 +89,9 @@ fn note_numbers(
     place: Location,
     lacking: &[Stretch],
 ) -> Result<(), Memory>
-    requires { AreRising lacking.now }
+    requires { rising.AreRising lacking.now }
     ensures { OnOk result ((n : ℕ) → get nat_cmp requests.new n
-        ≡ (if numbers_have numbers.now n && stretches_have lacking.now n then Some (requests_spec.new_request place) else get nat_cmp requests.old n)) }
+        ≡ (if said.numbers_have numbers.now n && stretches.stretches_have lacking.now n then Some (requests_spec.new_request place) else get nat_cmp requests.old n)) }
 {
     let mut at = 0;
     'apart: while let Some(range) = numbers.range_from(at) {
@@ -111,10 +109,10 @@ fn note_asking(
     exchange: &Exchange<'_, '_>,
     lacking: &[Stretch],
 ) -> Result<(), Memory>
-    requires { AreRising lacking.now }
+    requires { rising.AreRising lacking.now }
     ensures { OnOk result ((n : ℕ) → get nat_cmp requests.new n
-        ≡ (if asks_for exchange.now.pair.writer exchange.now.pair.reader n (placed_value placed.now) && stretches_have lacking.now n
-        then Some (requests_spec.new_request (locations.location_of (placed_value placed.now))) else get nat_cmp requests.old n)) }
+        ≡ (if missed.asks_for exchange.now.pair.writer exchange.now.pair.reader n (placed_spec.placed_value placed.now) && stretches.stretches_have lacking.now n
+        then Some (requests_spec.new_request (locations.location_of (placed_spec.placed_value placed.now))) else get nat_cmp requests.old n)) }
 {
     if !placed.act.asks(exchange.pair.reader, exchange.pair.writer) {
         return Ok(());
@@ -129,9 +127,9 @@ pub(crate) fn requests_of(
     exchange: &Exchange<'_, '_>,
     lacking: &[Stretch],
 ) -> Result<BTreeMap<u64, Request>, Memory>
-    requires { AreRising lacking.now }
+    requires { rising.AreRising lacking.now }
     ensures { IfOk result (λ requests. (n : ℕ) → get nat_cmp requests n
-        ≡ requested exchange.now.pair (map placed_value exchange.now.said.asks.now) (stretches_have lacking.now) n) }
+        ≡ requests_spec.requested exchange.now.pair (map placed_spec.placed_value exchange.now.said.asks.now) (stretches.stretches_have lacking.now) n) }
 {
     let mut requests = BTreeMap::new(alloc);
     if lacking.is_empty() {
@@ -144,11 +142,9 @@ pub(crate) fn requests_of(
 }
 
 impl Request {
-    ghost use Rattle.rtps_evidence.specs.Requests.{met_at};
-
     /// The request behind an act that brings the number.
     fn met(&self, placed: &Placed<'_>, since: Option<Location>) -> Request
-        ensures { result ≡ met_at since (placed_value placed.now) self.now }
+        ensures { result ≡ requests_spec.met_at since (placed_spec.placed_value placed.now) self.now }
     {
         Request {
             place: self.place,
@@ -172,7 +168,7 @@ pub(crate) fn note_bringing(
     listener: &Listener,
 ) -> Result<(), Memory>
     ensures { OnOk result ((n : ℕ) → get nat_cmp requests.new n
-        ≡ option_map (met_by listener.now.since listener.now.pair n (placed_value placed.now)) (get nat_cmp requests.old n)) }
+        ≡ option_map (requests_spec.met_by listener.now.since listener.now.pair n (placed_spec.placed_value placed.now)) (get nat_cmp requests.old n)) }
 {
     let Some(number) = said_to(placed, listener.pair).brought else {
         return Ok(());
@@ -190,7 +186,7 @@ pub(crate) fn in_vain(
     alloc: Global,
     requests: &BTreeMap<u64, Request>,
 ) -> Result<Vec<Stretch>, Memory>
-    ensures { IfOk result (λ missed. (n : ℕ) → n < 2 ^ 63 → stretches_have missed.items n ≡ option_any requests_spec.is_in_vain (get nat_cmp requests.now n)) }
+    ensures { IfOk result (λ missed. (n : ℕ) → n < 2 ^ 63 → stretches.stretches_have missed.items n ≡ requests_spec.option_any requests_spec.is_in_vain (get nat_cmp requests.now n)) }
 {
     let mut missed = Vec::new(alloc);
     for (number, request) in requests.iter() {

@@ -1,11 +1,10 @@
 ghost use Rattle.std.specs.Prelude.{◌≡◌, ◌<◌, ◌^◌, map, nat_lt, List};
 ghost use Rattle.std.specs.List.{find};
-ghost use Rattle.rtps_receiver.specs.Values.{ActValue};
-ghost use Rattle.rtps_audit.specs.Placed.{placed_in, placed_value};
-ghost use Rattle.rtps_audit.specs.Said.{IsSaid};
-ghost use Rattle.rtps_receiver.specs.Said.{natural};
+ghost use Rattle.rtps_receiver.specs.Values as values;
+ghost use Rattle.rtps_audit.specs.Placed as placed_spec;
+ghost use Rattle.rtps_audit.specs.Said as audit_said;
+ghost use Rattle.rtps_receiver.specs.Said as receiver_said;
 ghost use Rattle.rtps_evidence.specs.Locations as locations;
-ghost use Rattle.rtps_evidence.specs.Received.{first_claiming, gone_before, kept_by};
 ghost use Rattle.rtps_evidence.specs.Received as received_spec;
 
 use crate::acknowledgement::{Claim, claim_in};
@@ -29,7 +28,7 @@ pub struct NotReceived {
 
 /// The first of these answers that claims the number.
 fn first_claim(answers: &[Answer], number: u64) -> Option<Claim>
-    ensures { result ≡ find (λ claim. nat_lt number (natural claim.below)) (map locations.claim_in answers.now) }
+    ensures { result ≡ find (λ claim. nat_lt number (receiver_said.natural claim.below)) (map locations.claim_in answers.now) }
 {
     for answer in answers {
         if number < answer.natural_base() {
@@ -42,7 +41,7 @@ fn first_claim(answers: &[Answer], number: u64) -> Option<Claim>
 /// Whether the reader hears, by an act, that the number will not come.
 pub(crate) fn withdraws(placed: &Placed<'_>, pair: Pair, number: u64) -> bool
     requires { number < 2 ^ 63 }
-    ensures { result ≡ received_spec.withdraws pair.writer pair.reader number (placed_value placed.now) }
+    ensures { result ≡ received_spec.withdraws pair.writer pair.reader number (placed_spec.placed_value placed.now) }
 {
     let said = said_to(placed, pair);
     said.gone.has(number)
@@ -51,7 +50,7 @@ pub(crate) fn withdraws(placed: &Placed<'_>, pair: Pair, number: u64) -> bool
 /// Whether the reader hears that in a datagram before this one.
 fn withdraws_before(placed: &Placed<'_>, pair: Pair, number: u64, datagram: u64) -> bool
     requires { number < 2 ^ 63 }
-    ensures { result ≡ received_spec.withdraws_before pair.writer pair.reader number datagram (placed_value placed.now) }
+    ensures { result ≡ received_spec.withdraws_before pair.writer pair.reader number datagram (placed_spec.placed_value placed.now) }
 {
     (placed.datagram as u64) < datagram && withdraws(placed, pair, number)
 }
@@ -59,7 +58,7 @@ fn withdraws_before(placed: &Placed<'_>, pair: Pair, number: u64, datagram: u64)
 /// The first of these acts, in a datagram before that one, by which the reader hears that the number will not come.
 fn first_gone(acts: &[Placed<'_>], pair: Pair, number: u64, datagram: u64) -> Option<Teller>
     requires { number < 2 ^ 63 }
-    ensures { result ≡ gone_before pair.writer pair.reader number datagram (map placed_value acts.now) }
+    ensures { result ≡ received_spec.gone_before pair.writer pair.reader number datagram (map placed_spec.placed_value acts.now) }
 {
     for placed in acts {
         if withdraws_before(placed, pair, number, datagram) {
@@ -72,9 +71,9 @@ fn first_gone(acts: &[Placed<'_>], pair: Pair, number: u64, datagram: u64) -> Op
 /// The number as one that is not received, and what keeps it from being so.
 pub(crate) fn not_received_at(exchange: &Exchange<'_, '_>, number: u64) -> NotReceived
     requires { number < 2 ^ 63 }
-    ensures { (recording : List (List ActValue)) → IsSaid exchange.now.pair recording exchange.now.said
-        → result ≡ kept_by exchange.now.pair.writer exchange.now.pair.reader number (placed_in recording)
-        (first_claiming exchange.now.pair.writer exchange.now.pair.reader number (placed_in recording)) }
+    ensures { (recording : List (List values.ActValue)) → audit_said.IsSaid exchange.now.pair recording exchange.now.said
+        → result ≡ received_spec.kept_by exchange.now.pair.writer exchange.now.pair.reader number (placed_spec.placed_in recording)
+        (received_spec.first_claiming exchange.now.pair.writer exchange.now.pair.reader number (placed_spec.placed_in recording)) }
 {
     let Some(claim) = first_claim(exchange.said.answers, number) else {
         return NotReceived {

@@ -1,8 +1,8 @@
-ghost use Rattle.std.specs.Prelude.{ℕ, ◌≡◌, IfOk, Option};
-ghost use Rattle.rtps_audit.specs.Intake.{Intake};
-ghost use Rattle.rtps_audit.specs.Placed.{placed_in};
-ghost use Rattle.rtps_coverage.specs.Stretches.{stretches_have};
-ghost use Rattle.rtps_evidence.specs.Amount.{is_sent};
+ghost use Rattle.std.specs.Prelude.{ℕ, ◌≡◌, IfOk};
+ghost use Rattle.rtps_audit.specs.Intake as intake;
+ghost use Rattle.rtps_audit.specs.Placed as placed;
+ghost use Rattle.rtps_coverage.specs.Stretches as stretches;
+ghost use Rattle.rtps_evidence.specs.Amount as amount;
 ghost use Rattle.rtps_evidence.specs.OtherSide as other_side;
 
 use crate::recorded::sent_among;
@@ -33,13 +33,12 @@ pub struct Sides<'i, 'a, 'o, 'b> {
 }
 
 impl<'o, 'b> OtherSide<'o, 'b> {
-    ghost use Rattle.rtps_evidence.specs.OtherSide.{IsSideOf, OtherRecording};
     ghost use Rattle.rtps_evidence.specs.OtherSide as other_side;
 
     /// Whether it was made at the host of a pair's reader: it has an act whose source is the reader's participant and whose
     /// destination is the writer's.
     fn has_reader(&self, pair: Pair) -> bool
-        ensures { (other : OtherRecording) → IsSideOf other self.now → result ≡ other_side.has_reader other pair }
+        ensures { (other : other_side.OtherRecording) → other_side.IsSideOf other self.now → result ≡ other_side.has_reader other pair }
     {
         let answer = Naming {
             source: pair.reader.prefix,
@@ -50,8 +49,8 @@ impl<'o, 'b> OtherSide<'o, 'b> {
 
     /// The numbers of which the pair's reader hears a payload from its writer in it.
     fn sent(&self, alloc: Global, pair: Pair) -> Result<Vec<Stretch>, Memory>
-        ensures { (other : OtherRecording) → IsSideOf other self.now → IfOk result (λ sent. (n : ℕ) → stretches_have sent.items n
-            ≡ is_sent pair.writer pair.reader (placed_in other.intake.acts) n) }
+        ensures { (other : other_side.OtherRecording) → other_side.IsSideOf other self.now → IfOk result (λ sent. (n : ℕ) → stretches.stretches_have sent.items n
+            ≡ amount.is_sent pair.writer pair.reader (placed.placed_in other.intake.acts) n) }
     {
         let sent = sent_among(alloc, self.index.acts_of(pair.writer), pair)?;
         Ok(sent)
@@ -59,13 +58,11 @@ impl<'o, 'b> OtherSide<'o, 'b> {
 }
 
 impl<'i, 'a, 'o, 'b> Sides<'i, 'a, 'o, 'b> {
-    ghost use Rattle.rtps_evidence.specs.OtherSide.{AreSides, Beside, way_against};
-
     /// Which way round the two recordings are, by what a pair said in both. None where there is no other one, or it has no act whose
     /// source is the reader's participant and whose destination is the writer's. `Memory` is answered where what is kept cannot grow.
     pub fn way(&self, alloc: Global, pair: Pair) -> Result<Option<Way>, Memory>
-        ensures { (intake : Intake) (beside : Beside) → AreSides intake beside self.now
-            → IfOk result (λ way. way ≡ way_against intake.acts beside.other pair) }
+        ensures { (intake : intake.Intake) (beside : other_side.Beside) → other_side.AreSides intake beside self.now
+            → IfOk result (λ way. way ≡ other_side.way_against intake.acts beside.other pair) }
     {
         let Some(side) = &self.other else {
             return Ok(None);
@@ -103,7 +100,6 @@ pub(crate) struct Arrivals {
 }
 
 impl Arrivals {
-    ghost use Rattle.rtps_evidence.specs.OtherSide.{AreSides, AreThere, Beside, is_there};
     ghost use Rattle.rtps_evidence.specs.OtherSide as other_side;
 
     /// The numbers that are there of a pair; none where it is not held.
@@ -113,8 +109,8 @@ impl Arrivals {
         pair: Pair,
         is_held: bool,
     ) -> Result<Vec<Stretch>, Memory>
-        ensures { (intake : Intake) (beside : Beside) → AreSides intake beside sides.now → is_held ≡ other_side.is_held intake.acts beside.other pair
-            → IfOk result (λ numbers. (n : ℕ) → stretches_have numbers.items n ≡ is_there intake.acts beside.other pair n) }
+        ensures { (intake : intake.Intake) (beside : other_side.Beside) → other_side.AreSides intake beside sides.now → is_held ≡ other_side.is_held intake.acts beside.other pair
+            → IfOk result (λ numbers. (n : ℕ) → stretches.stretches_have numbers.items n ≡ other_side.is_there intake.acts beside.other pair n) }
     {
         if is_held {
             if let Some(side) = &sides.other {
@@ -131,8 +127,8 @@ impl Arrivals {
         sides: &Sides<'_, '_, '_, '_>,
         pair: Pair,
     ) -> Result<Arrivals, Memory>
-        ensures { (intake : Intake) (beside : Beside) → AreSides intake beside sides.now
-            → IfOk result (λ arrivals. AreThere intake.acts beside.other pair arrivals.way arrivals.is_held arrivals.numbers.items) }
+        ensures { (intake : intake.Intake) (beside : other_side.Beside) → other_side.AreSides intake beside sides.now
+            → IfOk result (λ arrivals. other_side.AreThere intake.acts beside.other pair arrivals.way arrivals.is_held arrivals.numbers.items) }
     {
         let way = sides.way(alloc, pair)?;
         let is_held = holds_by(way);

@@ -1,13 +1,12 @@
-ghost use Rattle.std.specs.Prelude.{ℕ, Bool, ◌≡◌, ◌+◌, ◌||◌, IfOk, OnOk, List};
-ghost use Rattle.rtps_receiver.specs.Values.{ActValue};
-ghost use Rattle.rtps_audit.specs.Placed.{PlacedValue, placed_in};
-ghost use Rattle.rtps_audit.specs.Said.{IsSaid};
-ghost use Rattle.rtps_coverage.specs.Counts.{count_in};
-ghost use Rattle.rtps_coverage.specs.Stretches.{stretches_have};
-ghost use Rattle.rtps_evidence.specs.Claimed.{AreLacking};
-ghost use Rattle.rtps_evidence.specs.KindRuns.{AreSets};
-ghost use Rattle.rtps_coverage.specs.Rising.{AreRising};
-ghost use Rattle.rtps_evidence.specs.Spans.{since_of};
+ghost use Rattle.std.specs.Prelude.{ℕ, Bool, ◌≡◌, IfOk, List};
+ghost use Rattle.rtps_receiver.specs.Values as values;
+ghost use Rattle.rtps_audit.specs.Placed as placed;
+ghost use Rattle.rtps_audit.specs.Said as said;
+ghost use Rattle.rtps_coverage.specs.Stretches as stretches;
+ghost use Rattle.rtps_evidence.specs.Claimed as claimed;
+ghost use Rattle.rtps_evidence.specs.KindRuns as kind_runs;
+ghost use Rattle.rtps_coverage.specs.Rising as rising;
+ghost use Rattle.rtps_evidence.specs.Spans as spans;
 
 use crate::acknowledgement::greatest_base;
 use crate::amount::{AskedNumbers, count_with};
@@ -68,8 +67,8 @@ pub(crate) struct Unreceived<'n, 's> {
 }
 
 impl Unreceived<'_, '_> {
-    ghost use Rattle.rtps_evidence.specs.FirstNumbers.{kept};
-    ghost use Rattle.rtps_evidence.specs.Outcomes.{lacking_of};
+    ghost use Rattle.rtps_evidence.specs.FirstNumbers as first_numbers;
+    ghost use Rattle.rtps_evidence.specs.Outcomes as outcomes;
 
     /// Of a pair that is held against another recording: the first of the numbers that are asked for and neither received nor
     /// there.
@@ -79,11 +78,11 @@ impl Unreceived<'_, '_> {
         exchange: &Exchange<'_, '_>,
         asked: &AskedNumbers,
     ) -> Result<FirstNumbers, Memory>
-        requires { AreRising self.now.numbers.now }
-        ensures { (acts : List PlacedValue) (there : ℕ → Bool) → ((n : ℕ) → stretches_have exchange.now.there.now n ≡ there n)
-            → AreLacking asked.now.from asked.now.last exchange.now.pair acts self.now.numbers.now
+        requires { rising.AreRising self.now.numbers.now }
+        ensures { (acts : List placed.PlacedValue) (there : ℕ → Bool) → ((n : ℕ) → stretches.stretches_have exchange.now.there.now n ≡ there n)
+            → claimed.AreLacking asked.now.from asked.now.last exchange.now.pair acts self.now.numbers.now
             → IfOk result (λ lacking. lacking
-            ≡ kept (lacking_of exchange.now.is_held there asked.now.from asked.now.last exchange.now.pair acts)) }
+            ≡ first_numbers.kept (outcomes.lacking_of exchange.now.is_held there asked.now.from asked.now.last exchange.now.pair acts)) }
     {
         if !exchange.is_held {
             return Ok(FirstNumbers::none());
@@ -97,7 +96,7 @@ impl Unreceived<'_, '_> {
 }
 
 impl Outcomes {
-    ghost use Rattle.rtps_evidence.specs.Outcomes.{AreOutcomes, absent_of};
+    ghost use Rattle.rtps_evidence.specs.Outcomes as outcomes;
 
     /// How many of the numbers that are asked for have each outcome, by what a pair said, and by the numbers that are there in
     /// another recording. Numbers of one outcome after another are put together, so that each outcome has what is then more.
@@ -107,11 +106,11 @@ impl Outcomes {
         sets: &OutcomeSets<'_, '_>,
         asked: &AskedNumbers,
     ) -> Result<Outcomes, Memory>
-        requires { AreRising sets.now.unreceived.numbers.now }
-        ensures { (recording : List (List ActValue)) (there : ℕ → Bool) → IsSaid exchange.now.pair recording exchange.now.said
-            → ((n : ℕ) → stretches_have exchange.now.there.now n ≡ there n)
-            → AreSets asked.now.from asked.now.last exchange.now.times.now.of_datagrams (since_of exchange.now.span) exchange.now.pair (placed_in recording) sets.now
-            → IfOk result (AreOutcomes there asked.now.from asked.now.last exchange.now.times.now.of_datagrams (since_of exchange.now.span) exchange.now.pair (placed_in recording)) }
+        requires { rising.AreRising sets.now.unreceived.numbers.now }
+        ensures { (recording : List (List values.ActValue)) (there : ℕ → Bool) → said.IsSaid exchange.now.pair recording exchange.now.said
+            → ((n : ℕ) → stretches.stretches_have exchange.now.there.now n ≡ there n)
+            → kind_runs.AreSets asked.now.from asked.now.last exchange.now.times.now.of_datagrams (spans.since_of exchange.now.span) exchange.now.pair (placed.placed_in recording) sets.now
+            → IfOk result (outcomes.AreOutcomes there asked.now.from asked.now.last exchange.now.times.now.of_datagrams (spans.since_of exchange.now.span) exchange.now.pair (placed.placed_in recording)) }
     {
         let claimed = [Stretch {
             lo: 0,
@@ -149,9 +148,9 @@ impl Outcomes {
         exchange: &Exchange<'_, '_>,
         asked: &AskedNumbers,
     ) -> Result<u64, Memory>
-        ensures { (acts : List PlacedValue) (there : ℕ → Bool) → ((n : ℕ) → stretches_have exchange.now.there.now n ≡ there n)
-            → AreOutcomes there asked.now.from asked.now.last exchange.now.times.now.of_datagrams (since_of exchange.now.span) exchange.now.pair acts self.now
-            → IfOk result (λ absent. absent ≡ absent_of exchange.now.is_held there asked.now.from asked.now.last exchange.now.pair acts) }
+        ensures { (acts : List placed.PlacedValue) (there : ℕ → Bool) → ((n : ℕ) → stretches.stretches_have exchange.now.there.now n ≡ there n)
+            → outcomes.AreOutcomes there asked.now.from asked.now.last exchange.now.times.now.of_datagrams (spans.since_of exchange.now.span) exchange.now.pair acts self.now
+            → IfOk result (λ absent. absent ≡ outcomes.absent_of exchange.now.is_held there asked.now.from asked.now.last exchange.now.pair acts) }
     {
         if !exchange.is_held {
             return Ok(0);

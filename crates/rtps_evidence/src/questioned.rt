@@ -1,9 +1,8 @@
-ghost use Rattle.std.specs.Prelude.{ℕ, Bool, false, ◌≡◌, ◌≤◌, ◌<◌, ◌^◌, ◌&&◌, ◌||◌, nat_le, nat_lt, if◌then◌else◌, OnOk};
-ghost use Rattle.rtps_coverage.specs.Stretches.{stretch_has, stretches_have};
-ghost use Rattle.rtps_evidence.specs.GoneRanges.{HasNonePast};
-ghost use Rattle.rtps_evidence.specs.Outcomes.{Silence, answered, asked_about, told_gone};
-ghost use Rattle.rtps_evidence.specs.Outcomes.Silence.{Unasked};
-ghost use Rattle.rtps_evidence.specs.Silences.{AreHushed, IsAskedMore, IsAt};
+ghost use Rattle.std.specs.Prelude.{ℕ, Bool, false, ◌≡◌, ◌≤◌, ◌^◌, ◌&&◌, ◌||◌, nat_le, nat_lt, if◌then◌else◌, OnOk};
+ghost use Rattle.rtps_coverage.specs.Stretches as stretches_spec;
+ghost use Rattle.rtps_evidence.specs.GoneRanges as gone_ranges;
+ghost use Rattle.rtps_evidence.specs.Outcomes as outcomes;
+ghost use Rattle.rtps_evidence.specs.Silences as silences;
 
 use crate::gone_ranges::{GoneRanges, first_past};
 use crate::times::Times;
@@ -46,7 +45,7 @@ fn note_asked(
     end: u64,
     datagram: u64,
 ) -> Result<(), Memory>
-    ensures { OnOk result (HasNonePast asked.old once → IsAskedMore asked.old asked.new once end datagram) }
+    ensures { OnOk result (gone_ranges.HasNonePast asked.old once → silences.IsAskedMore asked.old asked.new once end datagram) }
 {
     if once < end {
         asked.insert(end, datagram)?;
@@ -60,7 +59,7 @@ pub(crate) fn push_if(
     reason: bool,
     stretch: Stretch,
 ) -> Result<(), Memory>
-    ensures { OnOk result ((n : ℕ) → stretches_have stretches.new.items n ≡ (stretches_have stretches.old.items n || (reason && stretch_has n stretch))) }
+    ensures { OnOk result ((n : ℕ) → stretches_spec.stretches_have stretches.new.items n ≡ (stretches_spec.stretches_have stretches.old.items n || (reason && stretches_spec.stretch_has n stretch))) }
 {
     if reason {
         push(stretches, stretch)?;
@@ -71,7 +70,7 @@ pub(crate) fn push_if(
 impl Questioned {
     /// The writer asked about no number.
     pub(crate) fn new(alloc: Global) -> Questioned
-        ensures { (n : ℕ) → IsAt n Unasked result false }
+        ensures { (n : ℕ) → silences.IsAt n outcomes.Silence.Unasked result false }
     {
         Questioned {
             asked: BTreeMap::new(alloc),
@@ -84,7 +83,7 @@ impl Questioned {
 
     /// The reader answers.
     pub(crate) fn answer(&mut self)
-        ensures { (n : ℕ) (silence : Silence) (silent : Bool) → IsAt n silence self.old silent → IsAt n (answered silence) self.new silent }
+        ensures { (n : ℕ) (silence : outcomes.Silence) (silent : Bool) → silences.IsAt n silence self.old silent → silences.IsAt n (outcomes.answered silence) self.new silent }
     {
         self.answered = self.once;
         self.asked.clear();
@@ -93,8 +92,8 @@ impl Questioned {
 
     /// The writer asks, in a datagram, about the numbers below `end` that were not told gone. After `Memory` it is of no use.
     pub(crate) fn ask(&mut self, end: u64, datagram: u64) -> Result<(), Memory>
-        ensures { OnOk result ((n : ℕ) (silence : Silence) (silent : Bool) → IsAt n silence self.old silent
-            → IsAt n (if nat_lt n end then asked_about datagram silence else silence) self.new silent) }
+        ensures { OnOk result ((n : ℕ) (silence : outcomes.Silence) (silent : Bool) → silences.IsAt n silence self.old silent
+            → silences.IsAt n (if nat_lt n end then outcomes.asked_about datagram silence else silence) self.new silent) }
     {
         note_asked(&mut self.asked, self.once, end, datagram)?;
         self.again = self.again.max(self.once.min(end));
@@ -111,7 +110,7 @@ impl Questioned {
         moment: &Moment<'_>,
     ) -> Result<(), Memory>
         requires { numbers.end ≤ 2 ^ 63 }
-        ensures { OnOk result (AreHushed self.now moment.now numbers.start numbers.end (stretches_have silent.old.items) (stretches_have silent.new.items)) }
+        ensures { OnOk result (silences.AreHushed self.now moment.now numbers.start numbers.end (stretches_spec.stretches_have silent.old.items) (stretches_spec.stretches_have silent.new.items)) }
     {
         let mut at = numbers.start;
         'pieces: while at < numbers.end {
@@ -141,8 +140,8 @@ impl Questioned {
         moment: &Moment<'_>,
     ) -> Result<(), Memory>
         requires { numbers.end ≤ 2 ^ 63 }
-        ensures { OnOk result ((n : ℕ) (silence : Silence) → IsAt n silence self.old (stretches_have silent.old.items n)
-            → IsAt n (if nat_le numbers.start n && nat_lt n numbers.end then told_gone moment.now.times.now.of_datagrams moment.now.datagram silence else silence) self.new (stretches_have silent.new.items n)) }
+        ensures { OnOk result ((n : ℕ) (silence : outcomes.Silence) → silences.IsAt n silence self.old (stretches_spec.stretches_have silent.old.items n)
+            → silences.IsAt n (if nat_le numbers.start n && nat_lt n numbers.end then outcomes.told_gone moment.now.times.now.of_datagrams moment.now.datagram silence else silence) self.new (stretches_spec.stretches_have silent.new.items n)) }
     {
         let start = numbers.start.max(self.answered);
         let end = numbers.end;

@@ -2,10 +2,9 @@ ghost use Rattle.std.specs.Prelude.{◌≡◌, ◌+◌, ◌<◌, ◌^◌, ◌++�
 ghost use Rattle.std.specs.List.{last_or};
 ghost use Rattle.std.specs.Option.{option_map};
 ghost use Rattle.rtps_ids.specs.declared.identity.Guid.{Guid as GuidValue};
-ghost use Rattle.rtps_receiver.specs.Values.{spoken_body_value};
-ghost use Rattle.rtps_audit.specs.Placed.{PlacedValue, placed_value};
+ghost use Rattle.rtps_receiver.specs.Values as values;
+ghost use Rattle.rtps_audit.specs.Placed as placed_spec;
 ghost use Rattle.rtps_evidence.specs.declared.location.Location.{Location as Place};
-ghost use Rattle.rtps_evidence.specs.Questions.{AreAsked, questions_behind};
 ghost use Rattle.rtps_evidence.specs.Questions as questions;
 
 use crate::location::{Location, is_behind, location_of};
@@ -27,7 +26,7 @@ pub(crate) struct Questions {
 
 /// Whether an act is a HEARTBEAT that asks for an answer.
 fn is_question(body: &SpokenBody<'_>) -> bool
-    ensures { result ≡ questions.is_question (spoken_body_value body.now) }
+    ensures { result ≡ questions.is_question (values.spoken_body_value body.now) }
 {
     match body {
         SpokenBody::Act(ActBody::Heartbeat(heartbeat)) => !heartbeat.is_final,
@@ -40,7 +39,7 @@ fn is_question(body: &SpokenBody<'_>) -> bool
 
 /// Whether the pair's writer asks its reader by an act, behind a place.
 pub(crate) fn asks_behind(placed: &Placed<'_>, pair: Pair, place: Option<Location>) -> bool
-    ensures { result ≡ questions_behind place pair.writer pair.reader (placed_value placed.now) }
+    ensures { result ≡ questions.questions_behind place pair.writer pair.reader (placed_spec.placed_value placed.now) }
 {
     is_question(&placed.act.body)
         && is_behind(place, placed)
@@ -72,7 +71,7 @@ fn last_place(answers: &[Answer]) -> Option<Location>
 impl Questions {
     /// None was asked, where these are the answers.
     pub(crate) fn behind(answers: &[Answer]) -> Questions
-        ensures { (writer reader : GuidValue) → AreAsked (option_map questions.place_of (last_or None answers.now)) writer reader [] result }
+        ensures { (writer reader : GuidValue) → questions.AreAsked (option_map questions.place_of (last_or None answers.now)) writer reader [] result }
     {
         Questions {
             since: last_place(answers),
@@ -84,8 +83,8 @@ impl Questions {
 
     /// Is told an act more of the writer.
     pub(crate) fn hear(&mut self, placed: &Placed<'_>, pair: Pair)
-        ensures { (place : Option Place) (acts : List PlacedValue) → length acts + 1 < 2 ^ 64 → AreAsked place pair.writer pair.reader acts self.old
-            → AreAsked place pair.writer pair.reader (acts ++ placed_value placed.now ∷ []) self.new }
+        ensures { (place : Option Place) (acts : List placed_spec.PlacedValue) → length acts + 1 < 2 ^ 64 → questions.AreAsked place pair.writer pair.reader acts self.old
+            → questions.AreAsked place pair.writer pair.reader (acts ++ placed_spec.placed_value placed.now ∷ []) self.new }
     {
         if !asks_behind(placed, pair, self.since) {
             return;

@@ -1,9 +1,9 @@
 ghost use Rattle.std.specs.Prelude.{IfOk, List};
-ghost use Rattle.rtps_receiver.specs.Values.{ActValue};
-ghost use Rattle.rtps_audit.specs.Placed.{placed_in};
-ghost use Rattle.rtps_audit.specs.Said.{IsSaid};
-ghost use Rattle.rtps_evidence.specs.Claimed.{AreLacking};
-ghost use Rattle.rtps_evidence.specs.Received.{AreReceived};
+ghost use Rattle.rtps_receiver.specs.Values as values;
+ghost use Rattle.rtps_audit.specs.Placed as placed;
+ghost use Rattle.rtps_audit.specs.Said as said;
+ghost use Rattle.rtps_evidence.specs.Claimed as claimed;
+ghost use Rattle.rtps_evidence.specs.Received as received;
 
 use crate::amount::AskedNumbers;
 use crate::exchange::Exchange;
@@ -26,9 +26,9 @@ pub(crate) fn count_received(
     exchange: &Exchange<'_, '_>,
     asked: &AskedNumbers,
 ) -> Result<Received, Memory>
-    ensures { (recording : List (List ActValue)) → IsSaid exchange.now.pair recording exchange.now.said
-        → AreLacking asked.now.from asked.now.last exchange.now.pair (placed_in recording) lacking.old.items
-        → IfOk result (AreReceived asked.now.from asked.now.last exchange.now.pair.writer exchange.now.pair.reader (placed_in recording)) }
+    ensures { (recording : List (List values.ActValue)) → said.IsSaid exchange.now.pair recording exchange.now.said
+        → claimed.AreLacking asked.now.from asked.now.last exchange.now.pair (placed.placed_in recording) lacking.old.items
+        → IfOk result (received.AreReceived asked.now.from asked.now.last exchange.now.pair.writer exchange.now.pair.reader (placed.placed_in recording)) }
 {
     let from = asked.from.get();
     let end = asked.last + 1;

@@ -1,12 +1,11 @@
 ghost use Rattle.std.specs.Prelude.{ℕ, ◌≡◌, ◌-◌, ◌<◌, ◌^◌, map, max, IfOk};
-ghost use Rattle.rtps_audit.specs.Delivery.{greatest};
-ghost use Rattle.rtps_audit.specs.Index.{IsIndexBy};
-ghost use Rattle.rtps_audit.specs.Intake.{Intake};
-ghost use Rattle.rtps_audit.specs.Placed.{placed_value};
-ghost use Rattle.rtps_coverage.specs.Stretches.{stretches_have};
-ghost use Rattle.rtps_evidence.specs.Amount.{is_sent};
-ghost use Rattle.rtps_evidence.specs.OtherSide.{AreSides, Beside};
-ghost use Rattle.rtps_evidence.specs.Recorded.{IsArrivedBy, IsRecordedBy};
+ghost use Rattle.rtps_audit.specs.Delivery as delivery;
+ghost use Rattle.rtps_audit.specs.Index as index_spec;
+ghost use Rattle.rtps_audit.specs.Intake as intake;
+ghost use Rattle.rtps_audit.specs.Placed as placed_spec;
+ghost use Rattle.rtps_coverage.specs.Stretches as stretches;
+ghost use Rattle.rtps_evidence.specs.Amount as amount;
+ghost use Rattle.rtps_evidence.specs.OtherSide as other_side;
 ghost use Rattle.rtps_evidence.specs.Recorded as recorded_spec;
 
 use crate::amount::{AskedNumbers, push_number};
@@ -52,7 +51,7 @@ pub struct Arrived {
 
 /// The number of which the writer sends a payload, or a part of one, by an act, to whomever; 0 where it sends none.
 fn number_sent(placed: &Placed<'_>, writer: Guid) -> u64
-    ensures value { result ≡ recorded_spec.number_sent writer (placed_value placed.now) }
+    ensures value { result ≡ recorded_spec.number_sent writer (placed_spec.placed_value placed.now) }
     ensures in_range { result < 2 ^ 63 }
 {
     if placed.act.spoken_by(writer) {
@@ -64,7 +63,7 @@ fn number_sent(placed: &Placed<'_>, writer: Guid) -> u64
 
 /// The greatest of these numbers, or 0.
 fn greatest_sent(acts: &[Placed<'_>], writer: Guid) -> u64
-    ensures value { result ≡ greatest (map (recorded_spec.number_sent writer) (map placed_value acts.now)) }
+    ensures value { result ≡ delivery.greatest (map (recorded_spec.number_sent writer) (map placed_spec.placed_value acts.now)) }
     ensures in_range { result < 2 ^ 63 }
 {
     let mut greatest = 0u64;
@@ -80,7 +79,7 @@ pub(crate) fn sent_among(
     acts: &[Placed<'_>],
     pair: Pair,
 ) -> Result<Vec<Stretch>, Memory>
-    ensures { IfOk result (λ sent. (n : ℕ) → stretches_have sent.items n ≡ is_sent pair.writer pair.reader (map placed_value acts.now) n) }
+    ensures { IfOk result (λ sent. (n : ℕ) → stretches.stretches_have sent.items n ≡ amount.is_sent pair.writer pair.reader (map placed_spec.placed_value acts.now) n) }
 {
     let mut sent = Vec::new(alloc);
     for placed in acts {
@@ -97,7 +96,7 @@ pub fn recorded_of(
     pair: Pair,
     extent: Extent,
 ) -> Result<Recorded, Memory>
-    ensures { (intake : Intake) → IsIndexBy intake index.now → IfOk result (IsRecordedBy extent.in_spans extent.from pair intake) }
+    ensures { (intake : intake.Intake) → index_spec.IsIndexBy intake index.now → IfOk result (recorded_spec.IsRecordedBy extent.in_spans extent.from pair intake) }
 {
     let span = span_of(index, pair, extent.from, extent.in_spans);
     let said = Said::until(index, pair, span.until);
@@ -114,7 +113,7 @@ pub fn recorded_of(
 /// The numbers from `from` on, up to the greatest that the writer sends by these acts, to whomever.
 fn sent_from(from: FirstAsked, acts: &[Placed<'_>], writer: Guid) -> AskedNumbers
     ensures from { result.from ≡ from }
-    ensures last { result.last ≡ max (greatest (map (recorded_spec.number_sent writer) (map placed_value acts.now))) (from - 1) }
+    ensures last { result.last ≡ max (delivery.greatest (map (recorded_spec.number_sent writer) (map placed_spec.placed_value acts.now))) (from - 1) }
 {
     let before = from.get() - 1;
     let last = greatest_sent(acts, writer).max(before);
@@ -128,8 +127,8 @@ pub fn arrived_of(
     pair: Pair,
     extent: Extent,
 ) -> Result<Arrived, Memory>
-    ensures { (intake : Intake) (beside : Beside) → AreSides intake beside sides.now
-        → IfOk result (IsArrivedBy extent.in_spans extent.from beside.other pair intake) }
+    ensures { (intake : intake.Intake) (beside : other_side.Beside) → other_side.AreSides intake beside sides.now
+        → IfOk result (recorded_spec.IsArrivedBy extent.in_spans extent.from beside.other pair intake) }
 {
     let span = span_of(sides.index, pair, extent.from, extent.in_spans);
     let mut arrivals = Arrivals::of(alloc, sides, pair)?;

@@ -1,8 +1,8 @@
 ghost use Rattle.std.specs.Prelude.{ℕ, Bool, ◌≤◌, ◌+◌, ◌||◌, IfOk, OnOk};
 ghost use Rattle.std.specs.List.Sorted.{IsNonDecreasingBy};
-ghost use Rattle.rtps_coverage.specs.Stretches.{stretch_has, stretches_have};
-ghost use Rattle.rtps_evidence.specs.Kinds.{AreRunsOf};
-ghost use Rattle.rtps_evidence.specs.Runs.{AreClosed, IsAtHand};
+ghost use Rattle.rtps_coverage.specs.Stretches as stretches_spec;
+ghost use Rattle.rtps_evidence.specs.Kinds as kinds;
+ghost use Rattle.rtps_evidence.specs.Runs as runs_spec;
 
 use crate::amount::AskedNumbers;
 use rtps_coverage::Stretch;
@@ -11,7 +11,7 @@ use std::alloc::Global;
 
 /// Appends the run at hand, where it has some number.
 fn close(runs: &mut Vec<Stretch>, run: Stretch) -> Result<(), Memory>
-    ensures { OnOk result ((from : ℕ) (has : ℕ → Bool) → IsAtHand from has runs.old.items run → AreClosed from has (run.hi + 1) runs.new.items) }
+    ensures { OnOk result ((from : ℕ) (has : ℕ → Bool) → runs_spec.IsAtHand from has runs.old.items run → runs_spec.AreClosed from has (run.hi + 1) runs.new.items) }
 {
     if run.lo < run.hi {
         runs.push(run)?;
@@ -21,8 +21,8 @@ fn close(runs: &mut Vec<Stretch>, run: Stretch) -> Result<(), Memory>
 
 /// Goes on with the numbers of a stretch that does not begin before the run at hand: gives the run that is at hand then.
 fn go_on(runs: &mut Vec<Stretch>, run: Stretch, next: Stretch) -> Result<Stretch, Memory>
-    ensures at_hand { IfOk result (λ joined. (from : ℕ) (has : ℕ → Bool) → run.lo ≤ next.lo → IsAtHand from has runs.old.items run
-        → IsAtHand from (λ n. has n || stretch_has n next) runs.new.items joined) }
+    ensures at_hand { IfOk result (λ joined. (from : ℕ) (has : ℕ → Bool) → run.lo ≤ next.lo → runs_spec.IsAtHand from has runs.old.items run
+        → runs_spec.IsAtHand from (λ n. has n || stretches_spec.stretch_has n next) runs.new.items joined) }
     ensures first { IfOk result (λ joined. run.lo ≤ next.lo → joined.lo ≤ next.lo) }
 {
     if next.hi <= next.lo {
@@ -46,7 +46,7 @@ fn runs_in_order(
     end: u64,
 ) -> Result<Vec<Stretch>, Memory>
     requires { IsNonDecreasingBy (λ stretch. stretch.lo) stretches.now }
-    ensures { IfOk result (λ runs. AreRunsOf (stretches_have stretches.now) from end runs.items) }
+    ensures { IfOk result (λ runs. kinds.AreRunsOf (stretches_spec.stretches_have stretches.now) from end runs.items) }
 {
     let mut runs = Vec::new(alloc);
     let mut run = Stretch { lo: from, hi: from };
@@ -65,7 +65,7 @@ pub(crate) fn runs_of(
     stretches: &mut Vec<Stretch>,
     asked: &AskedNumbers,
 ) -> Result<Vec<Stretch>, Memory>
-    ensures { IfOk result (λ runs. AreRunsOf (stretches_have stretches.old.items) asked.now.from (asked.now.last + 1) runs.items) }
+    ensures { IfOk result (λ runs. kinds.AreRunsOf (stretches_spec.stretches_have stretches.old.items) asked.now.from (asked.now.last + 1) runs.items) }
 {
     stretches.sort_by_key(|stretch| stretch.lo)?;
     let from = asked.from.get();

@@ -1,12 +1,11 @@
 ghost use Rattle.std.specs.Prelude.{◌≡◌, ◌++◌, ◌∷◌, [], map, IfOk, OnOk, List};
 ghost use Rattle.std.specs.BTreeMap.{get};
 ghost use Rattle.std.specs.Ordering.{nat_cmp};
-ghost use Rattle.rtps_audit.specs.Placed.{PlacedValue, placed_value};
-ghost use Rattle.rtps_coverage.specs.Rising.{AreRising};
-ghost use Rattle.rtps_coverage.specs.Stretches.{stretches_have};
-ghost use Rattle.rtps_evidence.specs.Runs.{AreSendings};
+ghost use Rattle.rtps_audit.specs.Placed as placed_spec;
+ghost use Rattle.rtps_coverage.specs.Rising as rising;
+ghost use Rattle.rtps_coverage.specs.Stretches as stretches;
 ghost use Rattle.rtps_evidence.specs.Runs as runs;
-ghost use Rattle.rtps_evidence.specs.Kinds.{first_brought};
+ghost use Rattle.rtps_evidence.specs.Kinds as kinds;
 
 use crate::location::{Location, location_of, precedes};
 use crate::said_to::said_to;
@@ -62,9 +61,9 @@ fn span_with(span: Option<SentSpan>, place: Location) -> SentSpan
 impl Sendings {
     /// Notes which number an act brings the pair's reader, where it is one of these. After `Memory` what was found is of no use.
     fn note(&mut self, placed: &Placed<'_>, pair: Pair, numbers: &[Stretch]) -> Result<(), Memory>
-        requires { AreRising numbers.now }
-        ensures { OnOk result ((acts : List PlacedValue) → AreSendings (stretches_have numbers.now) (first_brought pair acts) self.old
-            → AreSendings (stretches_have numbers.now) (first_brought pair (acts ++ placed_value placed.now ∷ [])) self.new) }
+        requires { rising.AreRising numbers.now }
+        ensures { OnOk result ((acts : List placed_spec.PlacedValue) → runs.AreSendings (stretches.stretches_have numbers.now) (kinds.first_brought pair acts) self.old
+            → runs.AreSendings (stretches.stretches_have numbers.now) (kinds.first_brought pair (acts ++ placed_spec.placed_value placed.now ∷ [])) self.new) }
     {
         let Some(number) = said_to(placed, pair).brought else {
             return Ok(());
@@ -85,8 +84,8 @@ impl Sendings {
         pair: Pair,
         numbers: &[Stretch],
     ) -> Result<Sendings, Memory>
-        requires { AreRising numbers.now }
-        ensures { IfOk result (AreSendings (stretches_have numbers.now) (first_brought pair (map placed_value acts.now))) }
+        requires { rising.AreRising numbers.now }
+        ensures { IfOk result (runs.AreSendings (stretches.stretches_have numbers.now) (kinds.first_brought pair (map placed_spec.placed_value acts.now))) }
     {
         let mut sendings = Sendings {
             places: BTreeMap::new(alloc),

@@ -1,9 +1,8 @@
 ghost use Rattle.std.specs.Prelude.{◌≡◌, map};
 ghost use Rattle.std.specs.List.{find};
 ghost use Rattle.std.specs.Option.{option_map};
-ghost use Rattle.rtps_wire.specs.Values.{payload_value};
-ghost use Rattle.rtps_audit.specs.Placed.{placed_value};
-ghost use Rattle.rtps_evidence.specs.Locations.{differs, sent_at, sent_value};
+ghost use Rattle.rtps_wire.specs.Values as values;
+ghost use Rattle.rtps_audit.specs.Placed as placed_spec;
 ghost use Rattle.rtps_evidence.specs.Locations as locations;
 
 use crate::location::{Location, location_of};
@@ -21,7 +20,7 @@ pub struct Sent<'a> {
 
 /// The payload that the reader hears for the number from the writer by an act.
 fn payload_for<'a>(placed: &Placed<'a>, pair: Pair, number: u64) -> Option<Payload<'a>>
-    ensures { option_map payload_value result ≡ locations.payload_for pair.writer pair.reader number (placed_value placed.now) }
+    ensures { option_map values.payload_value result ≡ locations.payload_for pair.writer pair.reader number (placed_spec.placed_value placed.now) }
 {
     let said = said_to(placed, pair);
     if said.told == Some(number) {
@@ -33,7 +32,7 @@ fn payload_for<'a>(placed: &Placed<'a>, pair: Pair, number: u64) -> Option<Paylo
 
 /// Whether two payloads are equal in kind and octets.
 fn is_same(one: Payload<'_>, other: Payload<'_>) -> bool
-    ensures { result ≡ locations.is_same (payload_value one.entry) (payload_value other.entry) }
+    ensures { result ≡ locations.is_same (values.payload_value one.entry) (values.payload_value other.entry) }
 {
     match (one, other) {
         (Payload::Absent, Payload::Absent) => true,
@@ -45,7 +44,7 @@ fn is_same(one: Payload<'_>, other: Payload<'_>) -> bool
 
 /// The first payload for the number by these acts.
 pub(crate) fn first_sent<'a>(acts: &[Placed<'a>], pair: Pair, number: u64) -> Option<Sent<'a>>
-    ensures { option_map sent_value result ≡ locations.first_sent pair.writer pair.reader number (map placed_value acts.now) }
+    ensures { option_map locations.sent_value result ≡ locations.first_sent pair.writer pair.reader number (map placed_spec.placed_value acts.now) }
 {
     for placed in acts {
         if let Some(payload) = payload_for(placed, pair, number) {
@@ -65,8 +64,8 @@ fn another_sent<'a>(
     number: u64,
     first: Payload<'_>,
 ) -> Option<Sent<'a>>
-    ensures { option_map sent_value result ≡ option_map (sent_at pair.writer pair.reader number)
-        (find (λ placed. differs (payload_value first.entry) (locations.payload_for pair.writer pair.reader number placed)) (map placed_value acts.now)) }
+    ensures { option_map locations.sent_value result ≡ option_map (locations.sent_at pair.writer pair.reader number)
+        (find (λ placed. locations.differs (values.payload_value first.entry) (locations.payload_for pair.writer pair.reader number placed)) (map placed_spec.placed_value acts.now)) }
 {
     for placed in acts {
         if let Some(payload) = payload_for(placed, pair, number) {
@@ -83,7 +82,7 @@ fn another_sent<'a>(
 
 /// The first payload for the number by these acts that is another one than the first of all.
 pub(crate) fn other_sent<'a>(acts: &[Placed<'a>], pair: Pair, number: u64) -> Option<Sent<'a>>
-    ensures { option_map sent_value result ≡ locations.other_sent pair.writer pair.reader number (map placed_value acts.now) }
+    ensures { option_map locations.sent_value result ≡ locations.other_sent pair.writer pair.reader number (map placed_spec.placed_value acts.now) }
 {
     let first = first_sent(acts, pair, number)?;
     another_sent(acts, pair, number, first.payload)

@@ -1,10 +1,8 @@
 ghost use Rattle.std.specs.Prelude.{ℕ, ◌≡◌, ◌≤◌, ◌++◌, ◌∷◌, [], nat_lt, drop, length, if◌then◌else◌, OnOk, List};
-ghost use Rattle.rtps_receiver.specs.Said.{numbers_have};
-ghost use Rattle.rtps_audit.specs.Placed.{PlacedValue, placed_value};
-ghost use Rattle.rtps_evidence.specs.Outcomes.{Silence, answered, answers_left, is_answered, told_gone};
+ghost use Rattle.rtps_receiver.specs.Said as said;
+ghost use Rattle.rtps_audit.specs.Placed as placed_spec;
 ghost use Rattle.rtps_evidence.specs.Outcomes as outcomes;
-ghost use Rattle.rtps_evidence.specs.Outcomes.Silence.{Unasked};
-ghost use Rattle.rtps_evidence.specs.SilentNumbers.{AreSilent, IsAtIn};
+ghost use Rattle.rtps_evidence.specs.SilentNumbers as silent_numbers;
 
 use crate::exchange::Exchange;
 use crate::listener::Listener;
@@ -40,8 +38,8 @@ fn answers_before(answer: &Answer, place: Location) -> bool
 fn pass_answers(answers: &[Answer], passed: usize, place: Location) -> usize
     requires { passed ≤ length answers.now }
     ensures within { result ≤ length answers.now }
-    ensures left { drop result answers.now ≡ answers_left place (drop passed answers.now) }
-    ensures some { nat_lt passed result ≡ is_answered place (drop passed answers.now) }
+    ensures left { drop result answers.now ≡ outcomes.answers_left place (drop passed answers.now) }
+    ensures some { nat_lt passed result ≡ outcomes.is_answered place (drop passed answers.now) }
 {
     for next in passed..answers.len() {
         if !answers_before(&answers[next], place) {
@@ -54,7 +52,7 @@ fn pass_answers(answers: &[Answer], passed: usize, place: Location) -> usize
 impl SilentNumbers {
     /// Nothing was said.
     pub(crate) fn new(alloc: Global) -> Self
-        ensures none { (n : ℕ) → IsAtIn n Unasked result }
+        ensures none { (n : ℕ) → silent_numbers.IsAtIn n outcomes.Silence.Unasked result }
         ensures passed { result.passed ≡ 0 }
     {
         SilentNumbers {
@@ -66,8 +64,8 @@ impl SilentNumbers {
 
     /// The writer tells numbers gone. After `Memory` they are of no use.
     fn tell_gone(&mut self, gone: &Numbers<'_>, moment: &Moment<'_>) -> Result<(), Memory>
-        ensures told { OnOk result ((n : ℕ) (silence : Silence) → IsAtIn n silence self.old
-            → IsAtIn n (if numbers_have gone.now n then told_gone moment.now.times.now.of_datagrams moment.now.datagram silence else silence) self.new) }
+        ensures told { OnOk result ((n : ℕ) (silence : outcomes.Silence) → silent_numbers.IsAtIn n silence self.old
+            → silent_numbers.IsAtIn n (if said.numbers_have gone.now n then outcomes.told_gone moment.now.times.now.of_datagrams moment.now.datagram silence else silence) self.new) }
         ensures passed { self.new.passed ≡ self.old.passed }
     {
         let mut at = 0;
@@ -85,8 +83,8 @@ impl SilentNumbers {
         listener: &Listener,
         times: &Times,
     ) -> Result<(), Memory>
-        ensures heard { OnOk result ((n : ℕ) (silence : Silence) → IsAtIn n silence self.old
-            → IsAtIn n (outcomes.heard times.now.of_datagrams listener.now.since listener.now.pair n (placed_value placed.now) silence) self.new) }
+        ensures heard { OnOk result ((n : ℕ) (silence : outcomes.Silence) → silent_numbers.IsAtIn n silence self.old
+            → silent_numbers.IsAtIn n (outcomes.heard times.now.of_datagrams listener.now.since listener.now.pair n (placed_spec.placed_value placed.now) silence) self.new) }
         ensures passed { self.new.passed ≡ self.old.passed }
     {
         let said = said_to(placed, listener.pair);
@@ -104,9 +102,9 @@ impl SilentNumbers {
     /// The reader gives those of its answers that stand before a place.
     fn pass(&mut self, answers: &[Answer], place: Location)
         ensures within { self.new.passed ≤ length answers.now }
-        ensures left { self.old.passed ≤ length answers.now → drop self.new.passed answers.now ≡ answers_left place (drop self.old.passed answers.now) }
-        ensures answered { self.old.passed ≤ length answers.now → (n : ℕ) (silence : Silence) → IsAtIn n silence self.old
-            → IsAtIn n (if is_answered place (drop self.old.passed answers.now) then answered silence else silence) self.new }
+        ensures left { self.old.passed ≤ length answers.now → drop self.new.passed answers.now ≡ outcomes.answers_left place (drop self.old.passed answers.now) }
+        ensures answered { self.old.passed ≤ length answers.now → (n : ℕ) (silence : outcomes.Silence) → silent_numbers.IsAtIn n silence self.old
+            → silent_numbers.IsAtIn n (if outcomes.is_answered place (drop self.old.passed answers.now) then outcomes.answered silence else silence) self.new }
     {
         let passed = self.passed.min(answers.len());
         self.passed = pass_answers(answers, passed, place);
@@ -121,7 +119,7 @@ impl SilentNumbers {
         placed: &Placed<'_>,
         exchange: &Exchange<'_, '_>,
     ) -> Result<(), Memory>
-        ensures { OnOk result ((acts : List PlacedValue) → AreSilent exchange.now acts self.old → AreSilent exchange.now (acts ++ placed_value placed.now ∷ []) self.new) }
+        ensures { OnOk result ((acts : List placed_spec.PlacedValue) → silent_numbers.AreSilent exchange.now acts self.old → silent_numbers.AreSilent exchange.now (acts ++ placed_spec.placed_value placed.now ∷ []) self.new) }
     {
         self.pass(exchange.said.answers, location_of(placed));
         self.hear(placed, &exchange.listener(), exchange.times)

@@ -1,13 +1,11 @@
-ghost use Rattle.std.specs.Prelude.{◌≡◌, ◌==◌, ◌≤◌, ◌<◌, ◌^◌, map, IfSome};
+ghost use Rattle.std.specs.Prelude.{◌≡◌, ◌≤◌, ◌<◌, ◌^◌, map, IfSome};
 ghost use Rattle.std.specs.List.{before_first, find, list_any};
 ghost use Rattle.std.specs.Option.{option_map};
-ghost use Rattle.rtps_receiver.specs.Said.{numbers_have};
-ghost use Rattle.rtps_audit.specs.Index.{IsIndexBy};
-ghost use Rattle.rtps_audit.specs.Intake.{Intake};
-ghost use Rattle.rtps_audit.specs.Placed.{placed_in, placed_value};
-ghost use Rattle.rtps_evidence.specs.Missed.{asks_for, brings_behind, brings_some};
+ghost use Rattle.rtps_receiver.specs.Said as said;
+ghost use Rattle.rtps_audit.specs.Index as index_spec;
+ghost use Rattle.rtps_audit.specs.Intake as intake;
+ghost use Rattle.rtps_audit.specs.Placed as placed_spec;
 ghost use Rattle.rtps_evidence.specs.Missed as missed;
-ghost use Rattle.rtps_evidence.specs.Spans.{IsEndOf, IsFirstIn, IsFirstOwed, IsLeastFrom, IsOwedFrom, IsVolatileIn, announced_before, claims_at_before, gaps_behind, is_joined_here, lesser_of};
 ghost use Rattle.rtps_evidence.specs.Spans as spans;
 
 use crate::listener::{Listener, number_behind};
@@ -34,7 +32,7 @@ pub struct Span {
 
 /// Whether an answer claims some number, before a place.
 fn claims_at(answer: &Answer, place: Location) -> bool
-    ensures { result ≡ claims_at_before place answer.now }
+    ensures { result ≡ spans.claims_at_before place answer.now }
 {
     let datagram = answer.datagram as u64;
     let before = datagram < place.datagram || (datagram == place.datagram && answer.at < place.at);
@@ -43,7 +41,7 @@ fn claims_at(answer: &Answer, place: Location) -> bool
 
 /// Whether one of these answers of a pair does.
 fn claims_before(answers: &[Answer], place: Location) -> bool
-    ensures { result ≡ list_any (claims_at_before place) answers.now }
+    ensures { result ≡ list_any (spans.claims_at_before place) answers.now }
 {
     for answer in answers {
         if claims_at(answer, place) {
@@ -55,7 +53,7 @@ fn claims_before(answers: &[Answer], place: Location) -> bool
 
 /// The number that the writer announces by an act before a place, or 0.
 fn number_before(placed: &Placed<'_>, writer: Guid, place: Location) -> u64
-    ensures value { result ≡ spans.number_before place writer (placed_value placed.now) }
+    ensures value { result ≡ spans.number_before place writer (placed_spec.placed_value placed.now) }
     ensures in_range { result < 2 ^ 63 }
 {
     if is_before(place, placed) {
@@ -67,7 +65,7 @@ fn number_before(placed: &Placed<'_>, writer: Guid, place: Location) -> u64
 
 /// The greatest number that the writer announces by these acts before a place, or 0.
 fn greatest_before(acts: &[Placed<'_>], writer: Guid, place: Location) -> u64
-    ensures value { result ≡ announced_before place writer (map placed_value acts.now) }
+    ensures value { result ≡ spans.announced_before place writer (map placed_spec.placed_value acts.now) }
     ensures in_range { result < 2 ^ 63 }
 {
     let mut greatest = 0u64;
@@ -79,7 +77,7 @@ fn greatest_before(acts: &[Placed<'_>], writer: Guid, place: Location) -> u64
 
 /// The lesser of two numbers, where there are two.
 fn lesser(one: Option<u64>, other: Option<u64>) -> Option<u64>
-    ensures { result ≡ lesser_of one other }
+    ensures { result ≡ spans.lesser_of one other }
 {
     match (one, other) {
         (Some(one), Some(other)) => Some(one.min(other)),
@@ -90,7 +88,7 @@ fn lesser(one: Option<u64>, other: Option<u64>) -> Option<u64>
 
 /// The number of which an act behind the reader's joining brings a payload, or a fragment, if it is from `lo` on.
 fn brought_from(placed: &Placed<'_>, listener: &Listener, lo: u64) -> Option<u64>
-    ensures least { IsLeastFrom (λ n. brings_behind listener.now.since listener.now.pair.writer listener.now.pair.reader n (placed_value placed.now)) lo result }
+    ensures least { spans.IsLeastFrom (λ n. missed.brings_behind listener.now.since listener.now.pair.writer listener.now.pair.reader n (placed_spec.placed_value placed.now)) lo result }
     ensures in_range { IfSome result (λ number. number < 2 ^ 63) }
 {
     match number_behind(placed, listener) {
@@ -101,7 +99,7 @@ fn brought_from(placed: &Placed<'_>, listener: &Listener, lo: u64) -> Option<u64
 
 /// The least of these numbers from `lo` on.
 fn first_number_from(numbers: &Numbers<'_>, lo: u64) -> Option<u64>
-    ensures least { IsLeastFrom (numbers_have numbers.now) lo result }
+    ensures least { spans.IsLeastFrom (said.numbers_have numbers.now) lo result }
     ensures in_range { IfSome result (λ number. number < 2 ^ 63) }
 {
     match numbers.range_from(lo) {
@@ -113,7 +111,7 @@ fn first_number_from(numbers: &Numbers<'_>, lo: u64) -> Option<u64>
 /// The least number from `lo` on that the pair's reader asks its writer for by an act.
 #[tactic(auto, using(crate::proofs::SpanLemmas::asked_least))]
 fn asked_from(placed: &Placed<'_>, pair: Pair, lo: u64) -> Option<u64>
-    ensures least { IsLeastFrom (λ n. asks_for pair.writer pair.reader n (placed_value placed.now)) lo result }
+    ensures least { spans.IsLeastFrom (λ n. missed.asks_for pair.writer pair.reader n (placed_spec.placed_value placed.now)) lo result }
     ensures in_range { IfSome result (λ number. number < 2 ^ 63) }
 {
     let said = placed.act.said();
@@ -127,7 +125,7 @@ fn asked_from(placed: &Placed<'_>, pair: Pair, lo: u64) -> Option<u64>
 
 /// The least number from `lo` on that one of these acts brings behind the reader's joining.
 fn least_brought(acts: &[Placed<'_>], listener: &Listener, lo: u64) -> Option<u64>
-    ensures least { IsLeastFrom (λ n. list_any (brings_behind listener.now.since listener.now.pair.writer listener.now.pair.reader n) (map placed_value acts.now)) lo result }
+    ensures least { spans.IsLeastFrom (λ n. list_any (missed.brings_behind listener.now.since listener.now.pair.writer listener.now.pair.reader n) (map placed_spec.placed_value acts.now)) lo result }
     ensures in_range { IfSome result (λ number. number < 2 ^ 63) }
 {
     let mut least = None;
@@ -139,7 +137,7 @@ fn least_brought(acts: &[Placed<'_>], listener: &Listener, lo: u64) -> Option<u6
 
 /// The least number from `lo` on that the pair's reader asks its writer for by one of these acts.
 fn least_asked(acts: &[Placed<'_>], pair: Pair, lo: u64) -> Option<u64>
-    ensures least { IsLeastFrom (λ n. list_any (asks_for pair.writer pair.reader n) (map placed_value acts.now)) lo result }
+    ensures least { spans.IsLeastFrom (λ n. list_any (missed.asks_for pair.writer pair.reader n) (map placed_spec.placed_value acts.now)) lo result }
     ensures in_range { IfSome result (λ number. number < 2 ^ 63) }
 {
     let mut least = None;
@@ -163,7 +161,7 @@ fn is_lowest(durability: Durability) -> bool
 
 /// Whether a reader, all of whose announcements agree, has it.
 fn is_volatile(index: &Index<'_>, reader: Guid) -> bool
-    ensures { (intake : Intake) → IsIndexBy intake index.now → IsVolatileIn intake reader result }
+    ensures { (intake : intake.Intake) → index_spec.IsIndexBy intake index.now → spans.IsVolatileIn intake reader result }
 {
     match index.directory().endpoint(reader) {
         Some(endpoint) => is_lowest(endpoint.durability),
@@ -173,7 +171,7 @@ fn is_volatile(index: &Index<'_>, reader: Guid) -> bool
 
 /// One more than the greatest of these numbers; 0 where there is none.
 fn end_of(numbers: &Numbers<'_>) -> u64
-    ensures end { IsEndOf (numbers_have numbers.now) result }
+    ensures end { spans.IsEndOf (said.numbers_have numbers.now) result }
     ensures in_range { result ≤ 2 ^ 63 }
 {
     let mut end = 0;
@@ -185,7 +183,7 @@ fn end_of(numbers: &Numbers<'_>) -> u64
 
 /// The same of the numbers that an act tells gone, where it is a GAP that the listener hears; 0 where it is none.
 fn gap_end(placed: &Placed<'_>, listener: &Listener) -> u64
-    ensures end { IsEndOf (λ n. gaps_behind listener.now.since listener.now.pair.writer listener.now.pair.reader n (placed_value placed.now)) result }
+    ensures end { spans.IsEndOf (λ n. spans.gaps_behind listener.now.since listener.now.pair.writer listener.now.pair.reader n (placed_spec.placed_value placed.now)) result }
     ensures in_range { result ≤ 2 ^ 63 }
 {
     if is_behind(listener.since, placed) && is_gap(&placed.act.body) {
@@ -197,8 +195,8 @@ fn gap_end(placed: &Placed<'_>, listener: &Listener) -> u64
 
 /// The same of the GAPs among these acts that the listener hears before it is sent anything.
 fn gone_end(acts: &[Placed<'_>], listener: &Listener) -> u64
-    ensures end { IsEndOf (λ n. list_any (gaps_behind listener.now.since listener.now.pair.writer listener.now.pair.reader n)
-        (before_first (brings_some listener.now.since listener.now.pair.writer listener.now.pair.reader) (map placed_value acts.now))) result }
+    ensures end { spans.IsEndOf (λ n. list_any (spans.gaps_behind listener.now.since listener.now.pair.writer listener.now.pair.reader n)
+        (before_first (missed.brings_some listener.now.since listener.now.pair.writer listener.now.pair.reader) (map placed_spec.placed_value acts.now))) result }
     ensures in_range { result ≤ 2 ^ 63 }
 {
     let mut end = 0u64;
@@ -213,7 +211,7 @@ fn gone_end(acts: &[Placed<'_>], listener: &Listener) -> u64
 
 /// The least number, from `from` on, that may be owed to a reader that joins at a place.
 fn owed_from(index: &Index<'_>, pair: Pair, place: Location, from: SeqNum) -> u64
-    ensures owed { (intake : Intake) → IsIndexBy intake index.now → IsOwedFrom from place pair intake result }
+    ensures owed { (intake : intake.Intake) → index_spec.IsIndexBy intake index.now → spans.IsOwedFrom from place pair intake result }
     ensures in_range { result ≤ 2 ^ 63 }
     ensures positive { 1 ≤ result }
 {
@@ -235,7 +233,7 @@ fn owed_from(index: &Index<'_>, pair: Pair, place: Location, from: SeqNum) -> u6
 /// The least number from `owed` on that is for the reader, which joins at a place; `owed` where none is.
 fn first_owed(index: &Index<'_>, pair: Pair, place: Location, owed: u64) -> u64
     requires { owed ≤ 2 ^ 63 }
-    ensures first { (intake : Intake) → IsIndexBy intake index.now → IsFirstOwed owed place pair (placed_in intake.acts) result }
+    ensures first { (intake : intake.Intake) → index_spec.IsIndexBy intake index.now → spans.IsFirstOwed owed place pair (placed_spec.placed_in intake.acts) result }
     ensures in_range { result ≤ 2 ^ 63 }
     ensures onward { owed ≤ result }
 {
@@ -253,7 +251,7 @@ fn first_owed(index: &Index<'_>, pair: Pair, place: Location, owed: u64) -> u64
 
 /// The datagram of the first of these acts, behind the place where the reader joins, that says that it leaves.
 fn left_among(acts: &[Placed<'_>], reader: Guid, place: Location) -> Option<u64>
-    ensures { result ≡ option_map (λ placed. placed.datagram) (find (spans.leaves_behind place reader) (map placed_value acts.now)) }
+    ensures { result ≡ option_map (λ placed. placed.datagram) (find (spans.leaves_behind place reader) (map placed_spec.placed_value acts.now)) }
 {
     for placed in acts {
         if leaves_behind(placed, reader, place) {
@@ -265,14 +263,14 @@ fn left_among(acts: &[Placed<'_>], reader: Guid, place: Location) -> Option<u64>
 
 /// Whether an act behind the place where the reader joins says that it leaves.
 fn leaves_behind(placed: &Placed<'_>, reader: Guid, place: Location) -> bool
-    ensures { result ≡ spans.leaves_behind place reader (placed_value placed.now) }
+    ensures { result ≡ spans.leaves_behind place reader (placed_spec.placed_value placed.now) }
 {
     is_behind(Some(place), placed) && leaves(&placed.act, reader)
 }
 
 /// The datagram in which a reader, or a participant, that joins at a place leaves; None where it does not.
 pub fn left_in(index: &Index<'_>, reader: Guid, place: Location) -> Option<u64>
-    ensures { (intake : Intake) → IsIndexBy intake index.now → result ≡ spans.left_in (Some place) reader (placed_in intake.acts) }
+    ensures { (intake : intake.Intake) → index_spec.IsIndexBy intake index.now → result ≡ spans.left_in (Some place) reader (placed_spec.placed_in intake.acts) }
 {
     let (readers, participants) = leaving_writers(reader);
     let reader_left = left_among(index.acts_of(readers), reader, place);
@@ -282,7 +280,7 @@ pub fn left_in(index: &Index<'_>, reader: Guid, place: Location) -> Option<u64>
 
 /// The number from which on a row is, of a reader that joins at a place.
 fn first_number(index: &Index<'_>, pair: Pair, place: Location, from: SeqNum) -> FirstAsked
-    ensures { (intake : Intake) → IsIndexBy intake index.now → IsFirstIn from place pair intake result }
+    ensures { (intake : intake.Intake) → index_spec.IsIndexBy intake index.now → spans.IsFirstIn from place pair intake result }
 {
     let owed = owed_from(index, pair, place, from);
     let first = first_owed(index, pair, place, owed);
@@ -308,7 +306,7 @@ fn first_place(places: &[AnnouncedPlace]) -> Option<Location>
 
 /// Whether a reader that is announced first at a place, if there is one, joins there: it claims no number of the writer before.
 fn joins_here(index: &Index<'_>, pair: Pair, joined: Option<Location>) -> bool
-    ensures { (intake : Intake) → IsIndexBy intake index.now → result ≡ is_joined_here joined pair (placed_in intake.acts) }
+    ensures { (intake : intake.Intake) → index_spec.IsIndexBy intake index.now → result ≡ spans.is_joined_here joined pair (placed_spec.placed_in intake.acts) }
 {
     match joined {
         Some(place) => !claims_before(index.answers_of(pair), place),
@@ -317,11 +315,9 @@ fn joins_here(index: &Index<'_>, pair: Pair, joined: Option<Location>) -> bool
 }
 
 impl Span {
-    ghost use Rattle.rtps_evidence.specs.Spans.{IsSpan, IsWhole, since_of};
-
     /// The whole recording for a writer and a reader, by the numbers from `from` on.
     pub(crate) fn whole(index: &Index<'_>, pair: Pair, from: SeqNum) -> Span
-        ensures { (intake : Intake) → IsIndexBy intake index.now → IsWhole from pair intake result }
+        ensures { (intake : intake.Intake) → index_spec.IsIndexBy intake index.now → spans.IsWhole from pair intake result }
     {
         let joined = first_place(index.announced_at(pair.reader));
         Span {
@@ -334,7 +330,7 @@ impl Span {
 
     /// The span of a writer and a reader, any two GUIDs, by the numbers from `from` on. It takes no memory.
     pub fn of(index: &Index<'_>, pair: Pair, from: SeqNum) -> Span
-        ensures { (intake : Intake) → IsIndexBy intake index.now → IsSpan from pair intake result }
+        ensures { (intake : intake.Intake) → index_spec.IsIndexBy intake index.now → spans.IsSpan from pair intake result }
     {
         let whole = Span::whole(index, pair, from);
         let Some(place) = whole.joined else {
@@ -355,7 +351,7 @@ impl Span {
 
     /// The place behind which acts are since the reader joined; None where all are.
     pub fn since(&self) -> Option<Location>
-        ensures { result ≡ since_of self.now }
+        ensures { result ≡ spans.since_of self.now }
     {
         if self.is_joined_here {
             self.joined

@@ -1,19 +1,19 @@
 ghost use Rattle.std.specs.Prelude.{ℕ, ◌≡◌, ◌≤◌, map, IfOk, List};
-ghost use Rattle.rtps_receiver.specs.Values.{ActValue};
-ghost use Rattle.rtps_audit.specs.Delivery.{last_announced_from};
-ghost use Rattle.rtps_audit.specs.Placed.{placed_in, placed_value};
-ghost use Rattle.rtps_audit.specs.Said.{IsSaid};
-ghost use Rattle.rtps_audit.specs.Speech.{speech_by};
-ghost use Rattle.rtps_coverage.specs.Rising.{AreRising};
-ghost use Rattle.rtps_coverage.specs.Stretches.{stretches_have};
-ghost use Rattle.rtps_evidence.specs.Claimed.{AreLacking};
-ghost use Rattle.rtps_evidence.specs.Evidence.{IsBeside};
-ghost use Rattle.rtps_evidence.specs.Kinds.{IsLostIn, lost_value};
-ghost use Rattle.rtps_evidence.specs.Heard.{IsHeard};
-ghost use Rattle.rtps_evidence.specs.Ledger.{Stands};
-ghost use Rattle.rtps_evidence.specs.Missed.{is_missed, is_unmet};
-ghost use Rattle.rtps_evidence.specs.OtherSide.{AreThere, Beside};
-ghost use Rattle.rtps_evidence.specs.Spans.{since_of};
+ghost use Rattle.rtps_receiver.specs.Values as values;
+ghost use Rattle.rtps_audit.specs.Delivery as delivery;
+ghost use Rattle.rtps_audit.specs.Placed as placed;
+ghost use Rattle.rtps_audit.specs.Said as said;
+ghost use Rattle.rtps_audit.specs.Speech as speech;
+ghost use Rattle.rtps_coverage.specs.Rising as rising;
+ghost use Rattle.rtps_coverage.specs.Stretches as stretches;
+ghost use Rattle.rtps_evidence.specs.Claimed as claimed;
+ghost use Rattle.rtps_evidence.specs.Evidence as evidence;
+ghost use Rattle.rtps_evidence.specs.Kinds as kinds;
+ghost use Rattle.rtps_evidence.specs.Heard as heard;
+ghost use Rattle.rtps_evidence.specs.Ledger as ledger;
+ghost use Rattle.rtps_evidence.specs.Missed as missed;
+ghost use Rattle.rtps_evidence.specs.OtherSide as other_side;
+ghost use Rattle.rtps_evidence.specs.Spans as spans;
 
 use crate::amount::AskedNumbers;
 use crate::exchange::Exchange;
@@ -39,20 +39,20 @@ impl Spanned {
         unreceived: Unreceived<'_, '_>,
         asked: &AskedNumbers,
     ) -> Result<Spanned, Memory>
-        requires rising { AreRising unreceived.numbers.now }
+        requires rising { rising.AreRising unreceived.numbers.now }
         requires from { asked.now.from ≡ exchange.now.span.from }
-        ensures { (all recording : List (List ActValue)) (beside : Beside) → IsSaid exchange.now.pair recording exchange.now.said
-            → AreThere all beside.other exchange.now.pair exchange.now.way exchange.now.is_held exchange.now.there.now → exchange.now.times.now.of_datagrams ≡ beside.times
-            → asked.now.last ≡ last_announced_from asked.now.from (speech_by exchange.now.pair.writer exchange.now.pair.reader recording)
-            → AreLacking asked.now.from asked.now.last exchange.now.pair (placed_in recording) unreceived.entry.numbers.now
-            → ((n : ℕ) → asked.now.from ≤ n → n ≤ asked.now.last → stretches_have unreceived.entry.unmet.now n
-            ≡ is_unmet (since_of exchange.now.span) exchange.now.pair.writer exchange.now.pair.reader (placed_in recording) n)
-            → ((n : ℕ) → asked.now.from ≤ n → n ≤ asked.now.last → stretches_have unreceived.entry.missed.now n
-            ≡ is_missed (since_of exchange.now.span) exchange.now.pair.writer exchange.now.pair.reader (placed_in recording) n)
-            → Stands exchange.now (stretches_have unreceived.entry.numbers.now) (map placed_value exchange.now.said.acts.now) unreceived.entry.ledger.now
-            → IsHeard exchange.now (map placed_value exchange.now.said.acts.now) unreceived.entry.heard.now
-            → IfOk result (λ spanned. IsBeside exchange.now.in_spans beside exchange.now.span exchange.now.pair all recording spanned.in_span
-            × IsLostIn exchange.now.in_spans beside exchange.now.span exchange.now.pair all recording (lost_value spanned.lost)) }
+        ensures { (all recording : List (List values.ActValue)) (beside : other_side.Beside) → said.IsSaid exchange.now.pair recording exchange.now.said
+            → other_side.AreThere all beside.other exchange.now.pair exchange.now.way exchange.now.is_held exchange.now.there.now → exchange.now.times.now.of_datagrams ≡ beside.times
+            → asked.now.last ≡ delivery.last_announced_from asked.now.from (speech.speech_by exchange.now.pair.writer exchange.now.pair.reader recording)
+            → claimed.AreLacking asked.now.from asked.now.last exchange.now.pair (placed.placed_in recording) unreceived.entry.numbers.now
+            → ((n : ℕ) → asked.now.from ≤ n → n ≤ asked.now.last → stretches.stretches_have unreceived.entry.unmet.now n
+            ≡ missed.is_unmet (spans.since_of exchange.now.span) exchange.now.pair.writer exchange.now.pair.reader (placed.placed_in recording) n)
+            → ((n : ℕ) → asked.now.from ≤ n → n ≤ asked.now.last → stretches.stretches_have unreceived.entry.missed.now n
+            ≡ missed.is_missed (spans.since_of exchange.now.span) exchange.now.pair.writer exchange.now.pair.reader (placed.placed_in recording) n)
+            → ledger.Stands exchange.now (stretches.stretches_have unreceived.entry.numbers.now) (map placed.placed_value exchange.now.said.acts.now) unreceived.entry.ledger.now
+            → heard.IsHeard exchange.now (map placed.placed_value exchange.now.said.acts.now) unreceived.entry.heard.now
+            → IfOk result (λ spanned. evidence.IsBeside exchange.now.in_spans beside exchange.now.span exchange.now.pair all recording spanned.in_span
+            × kinds.IsLostIn exchange.now.in_spans beside exchange.now.span exchange.now.pair all recording (kinds.lost_value spanned.lost)) }
     {
         if !exchange.in_spans {
             return Ok(Spanned {

@@ -1,6 +1,5 @@
 ghost use Rattle.std.specs.Prelude.{◌≡◌, ◌<◌, ◌^◌, map};
-ghost use Rattle.rtps_audit.specs.Placed.{placed_value};
-ghost use Rattle.rtps_evidence.specs.Locations.{teller_of};
+ghost use Rattle.rtps_audit.specs.Placed as placed_spec;
 ghost use Rattle.rtps_evidence.specs.Locations as locations;
 
 use crate::location::{Kind, Location, kind_of, location_of};
@@ -19,7 +18,7 @@ pub struct Teller {
 /// Whether the reader hears a word for the number from the writer by an act.
 fn tells(placed: &Placed<'_>, pair: Pair, number: u64) -> bool
     requires { number < 2 ^ 63 }
-    ensures { result ≡ locations.tells pair.writer pair.reader number (placed_value placed.now) }
+    ensures { result ≡ locations.tells pair.writer pair.reader number (placed_spec.placed_value placed.now) }
 {
     let said = said_to(placed, pair);
     said.gone.has(number) || said.told == Some(number)
@@ -27,7 +26,7 @@ fn tells(placed: &Placed<'_>, pair: Pair, number: u64) -> bool
 
 /// An act as one that tells a number.
 pub(crate) fn teller_at(placed: &Placed<'_>) -> Teller
-    ensures { result ≡ locations.teller_at (placed_value placed.now) }
+    ensures { result ≡ locations.teller_at (placed_spec.placed_value placed.now) }
 {
     Teller {
         kind: kind_of(&placed.act.body),
@@ -38,7 +37,7 @@ pub(crate) fn teller_at(placed: &Placed<'_>) -> Teller
 /// The first of these acts by which the reader hears a word for the number from the writer.
 pub(crate) fn find_teller(acts: &[Placed<'_>], pair: Pair, number: u64) -> Option<Teller>
     requires { number < 2 ^ 63 }
-    ensures { result ≡ teller_of pair.writer pair.reader number (map placed_value acts.now) }
+    ensures { result ≡ locations.teller_of pair.writer pair.reader number (map placed_spec.placed_value acts.now) }
 {
     for placed in acts {
         if tells(placed, pair, number) {

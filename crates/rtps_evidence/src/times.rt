@@ -1,6 +1,5 @@
-ghost use Rattle.std.specs.Prelude.{◌≡◌, take, IfOk, None};
-ghost use Rattle.rtps_audit.specs.Said.{datagrams_until};
-ghost use Rattle.rtps_evidence.specs.Times.{AreEnds, back_from, end_of, frame_of, is_long_between, later_of, no_times, second_of, seconds_between, seconds_of, time_of};
+ghost use Rattle.std.specs.Prelude.{◌≡◌, take, IfOk};
+ghost use Rattle.rtps_audit.specs.Said as said;
 ghost use Rattle.rtps_evidence.specs.Times as times_spec;
 
 use rtps_ids::Memory;
@@ -23,7 +22,7 @@ pub struct Seconds {
 impl Seconds {
     /// So many nanoseconds, as they are said.
     pub fn of(nanoseconds: u64) -> Seconds
-        ensures { result ≡ seconds_of nanoseconds }
+        ensures { result ≡ times_spec.seconds_of nanoseconds }
     {
         Seconds {
             negative: false,
@@ -33,7 +32,7 @@ impl Seconds {
 
     /// How long behind the start a time is, as it is said.
     pub fn between(start: u64, time: u64) -> Seconds
-        ensures { result ≡ seconds_between start time }
+        ensures { result ≡ times_spec.seconds_between start time }
     {
         let milliseconds = time.abs_diff(start) / MILLISECOND;
         Seconds {
@@ -59,18 +58,18 @@ pub struct Times {
 }
 
 impl Model for Times {
-    ghost use Rattle.rtps_evidence.specs.Times.{AreEnds, TimesValue};
+    ghost use Rattle.rtps_evidence.specs.Times as times_spec;
 
-    ghost Value = { TimesValue };
+    ghost Value = { times_spec.TimesValue };
 
     ghost view = { λ times. record { start = times.start; end = times.end; of_datagrams = times.of_datagrams.items; frames = times.frames.items } };
 
-    ghost invariant = { λ times. AreEnds times.of_datagrams.items times.ends.items };
+    ghost invariant = { λ times. times_spec.AreEnds times.of_datagrams.items times.ends.items };
 }
 
 /// The later of two times, where there are two.
 fn later(one: Option<u64>, other: Option<u64>) -> Option<u64>
-    ensures { result ≡ later_of one other }
+    ensures { result ≡ times_spec.later_of one other }
 {
     match (one, other) {
         (Some(one), Some(other)) => Some(one.max(other)),
@@ -81,7 +80,7 @@ fn later(one: Option<u64>, other: Option<u64>) -> Option<u64>
 
 /// By how much a time is before an earlier one, where there are both.
 fn back(earlier: Option<u64>, time: Option<u64>) -> u64
-    ensures { result ≡ back_from earlier time }
+    ensures { result ≡ times_spec.back_from earlier time }
 {
     match (earlier, time) {
         (Some(earlier), Some(time)) => earlier.saturating_sub(time),
@@ -92,7 +91,7 @@ fn back(earlier: Option<u64>, time: Option<u64>) -> u64
 
 /// The greatest of these times, up to each of them.
 fn ends_of(alloc: Global, times: &[Option<u64>]) -> Result<Vec<Option<u64>>, Memory>
-    ensures { IfOk result (λ ends. AreEnds times.now ends.items) }
+    ensures { IfOk result (λ ends. times_spec.AreEnds times.now ends.items) }
 {
     let mut ends = Vec::with_capacity(alloc, times.len())?;
     let mut latest = None;
@@ -106,7 +105,7 @@ fn ends_of(alloc: Global, times: &[Option<u64>]) -> Result<Vec<Option<u64>>, Mem
 impl Times {
     /// No times, as of a text. It takes no memory.
     pub fn none(alloc: Global) -> Times
-        ensures { result ≡ no_times }
+        ensures { result ≡ times_spec.no_times }
     {
         Times {
             start: None,
@@ -139,7 +138,7 @@ impl Times {
 
     /// The number of the frame that gave or completed a datagram. Both count from 1: it is None of 0, past the last, and of a text.
     pub fn frame(&self, datagram: u64) -> Option<u64>
-        ensures { result ≡ frame_of self.now.frames datagram }
+        ensures { result ≡ times_spec.frame_of self.now.frames datagram }
     {
         if datagram == 0 {
             return None;
@@ -170,7 +169,7 @@ impl Times {
 
     /// The time of a datagram. They count from 1: it is None of 0, and past the last.
     pub fn of_datagram(&self, number: u64) -> Option<u64>
-        ensures { result ≡ time_of self.now.of_datagrams number }
+        ensures { result ≡ times_spec.time_of self.now.of_datagrams number }
     {
         if number == 0 || (self.of_datagrams.len() as u64) < number {
             return None;
@@ -180,7 +179,7 @@ impl Times {
 
     /// Whether the second of two datagrams came 100 ms or more behind the first; so it is said where one of them has no time.
     pub(crate) fn is_long(&self, earlier: u64, later: u64) -> bool
-        ensures { result ≡ is_long_between self.now.of_datagrams earlier later }
+        ensures { result ≡ times_spec.is_long_between self.now.of_datagrams earlier later }
     {
         match (self.of_datagram(earlier), self.of_datagram(later)) {
             (Some(earlier), Some(later)) => LONG <= later.saturating_sub(earlier),
@@ -191,7 +190,7 @@ impl Times {
 
     /// The greatest time among the first `count` datagrams, or among all where there are no more. It takes one step.
     pub fn end(&self, count: usize) -> Option<u64>
-        ensures { result ≡ end_of (take count self.now.of_datagrams) }
+        ensures { result ≡ times_spec.end_of (take count self.now.of_datagrams) }
     {
         let count = count.min(self.ends.len());
         if count == 0 {
@@ -202,7 +201,7 @@ impl Times {
 
     /// The greatest time among the datagrams before this one, which is counted from 1; among all, where there is none.
     pub fn end_until(&self, until: Option<u64>) -> Option<u64>
-        ensures { result ≡ end_of (datagrams_until until self.now.of_datagrams) }
+        ensures { result ≡ times_spec.end_of (said.datagrams_until until self.now.of_datagrams) }
     {
         match until {
             Some(datagram) => self.end(datagram.saturating_sub(1) as usize),
@@ -226,7 +225,7 @@ impl Times {
 
     /// How long behind the start of the capture a datagram came, as it is said. None where it has no time.
     pub fn second(&self, datagram: u64) -> Option<Seconds>
-        ensures { result ≡ second_of self.now.start (time_of self.now.of_datagrams datagram) }
+        ensures { result ≡ times_spec.second_of self.now.start (times_spec.time_of self.now.of_datagrams datagram) }
     {
         match (self.start, self.of_datagram(datagram)) {
             (Some(start), Some(time)) => Some(Seconds::between(start, time)),

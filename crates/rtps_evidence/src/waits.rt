@@ -1,6 +1,5 @@
 ghost use Rattle.std.specs.Prelude.{◌≡◌, find, slice_get, List, None};
-ghost use Rattle.rtps_audit.specs.Placed.{placed_value};
-ghost use Rattle.rtps_evidence.specs.Waits.{HasPassed, answered_at, answers_behind, longer_of, told_of};
+ghost use Rattle.rtps_audit.specs.Placed as placed_spec;
 ghost use Rattle.rtps_evidence.specs.Waits as waits_spec;
 
 use crate::exchange::Exchange;
@@ -34,7 +33,7 @@ impl Wait {
 
 /// A wait, where there is one that is longer than a second.
 fn told(wait: Option<Wait>) -> Option<Wait>
-    ensures { result ≡ told_of wait }
+    ensures { result ≡ waits_spec.told_of wait }
 {
     match wait {
         Some(wait) => { if wait.is_told() { Some(wait) } else { None } }
@@ -44,7 +43,7 @@ fn told(wait: Option<Wait>) -> Option<Wait>
 
 /// The longer of two waits, where there are two; of equal ones the first.
 fn longer(one: Option<Wait>, other: Option<Wait>) -> Option<Wait>
-    ensures { result ≡ longer_of one other }
+    ensures { result ≡ waits_spec.longer_of one other }
 {
     match (one, other) {
         (Some(one), Some(other)) => {
@@ -61,9 +60,9 @@ fn longer(one: Option<Wait>, other: Option<Wait>) -> Option<Wait>
 
 /// The first of these answers that stands behind a place, where those before this one do not.
 fn pass_answers(answers: &[Answer], passed: usize, place: Location) -> usize
-    requires { HasPassed answers.now passed place }
-    ensures passed { HasPassed answers.now result place }
-    ensures next { find (answers_behind place) answers.now ≡ slice_get answers.now result }
+    requires { waits_spec.HasPassed answers.now passed place }
+    ensures passed { waits_spec.HasPassed answers.now result place }
+    ensures next { find (waits_spec.answers_behind place) answers.now ≡ slice_get answers.now result }
 {
     for next in passed..answers.len() {
         if precedes(place, place_of(&answers[next])) {
@@ -85,13 +84,13 @@ struct AnswerWalk<'s> {
 impl<'s> Model for AnswerWalk<'s> {
     ghost use Rattle.std.specs.Prelude.{List};
     ghost use Rattle.rtps_audit.specs.declared.answer.Answer.{Answer as AnswerValue};
-    ghost use Rattle.rtps_evidence.specs.Waits.{HasPassed};
+    ghost use Rattle.rtps_evidence.specs.Waits as waits_spec;
 
     ghost Value = { List AnswerValue };
 
     ghost view = { λ walk. walk.answers.now };
 
-    ghost invariant = { λ walk. HasPassed walk.answers.now walk.passed walk.place };
+    ghost invariant = { λ walk. waits_spec.HasPassed walk.answers.now walk.passed walk.place };
 }
 
 impl<'s> AnswerWalk<'s> {
@@ -109,7 +108,7 @@ impl<'s> AnswerWalk<'s> {
     /// Where the first answer behind a place stands. The walk goes on to it, where the place does not stand before the one
     /// that was asked for at last; else it begins anew.
     fn first_behind(&mut self, place: Location) -> Option<Location>
-        ensures place { result ≡ answered_at place self.old }
+        ensures place { result ≡ waits_spec.answered_at place self.old }
         ensures same { self.new ≡ self.old }
     {
         let passed = if precedes(place, self.place) {
@@ -156,8 +155,7 @@ pub(crate) struct Waiting<'s> {
 
 impl<'s> Waiting<'s> {
     ghost use Rattle.std.specs.Prelude.{◌++◌, ◌∷◌, []};
-    ghost use Rattle.rtps_audit.specs.Placed.{PlacedValue};
-    ghost use Rattle.rtps_evidence.specs.Heard.{IsLongest};
+    ghost use Rattle.rtps_evidence.specs.Heard as heard;
 
     /// Nothing was said, but for these answers of the reader.
     pub(crate) fn new(answers: &'s [Answer]) -> Waiting<'s>
@@ -172,7 +170,7 @@ impl<'s> Waiting<'s> {
 
     /// The reader hears an act of the writer.
     pub(crate) fn hear(&mut self, placed: &Placed<'_>, exchange: &Exchange<'_, '_>)
-        ensures { (acts : List PlacedValue) → IsLongest exchange.now acts self.old → IsLongest exchange.now (acts ++ placed_value placed.now ∷ []) self.new }
+        ensures { (acts : List placed_spec.PlacedValue) → heard.IsLongest exchange.now acts self.old → heard.IsLongest exchange.now (acts ++ placed_spec.placed_value placed.now ∷ []) self.new }
     {
         let listener = exchange.listener();
         if !asks_behind(placed, listener.pair, listener.since) {
@@ -187,7 +185,7 @@ impl<'s> Waiting<'s> {
 
     /// The longest wait, where it is longer than a second.
     pub(crate) fn told(&self) -> Option<Wait>
-        ensures { result ≡ told_of self.now.longest }
+        ensures { result ≡ waits_spec.told_of self.now.longest }
     {
         told(self.longest)
     }

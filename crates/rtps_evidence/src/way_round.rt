@@ -1,11 +1,10 @@
 ghost use Rattle.std.specs.Prelude.{◌≡◌, ◌&&◌, ◌||◌, false, filter, map, not, IfOk, MatchOption};
 ghost use Rattle.std.specs.List.{list_any};
-ghost use Rattle.rtps_audit.specs.Index.{IsIndexBy};
-ghost use Rattle.rtps_audit.specs.Intake.{Intake};
-ghost use Rattle.rtps_audit.specs.Placed.{placed_value};
+ghost use Rattle.rtps_audit.specs.Index as index;
+ghost use Rattle.rtps_audit.specs.Intake as intake;
+ghost use Rattle.rtps_audit.specs.Placed as placed_spec;
 ghost use Rattle.rtps_receiver.specs.Speech as speech;
 ghost use Rattle.rtps_evidence.specs.Locations as locations;
-ghost use Rattle.rtps_evidence.specs.WayRound.{AreByKey, has_lone_act, has_lone_answer, is_shared, is_within, way_of_pair};
 ghost use Rattle.rtps_evidence.specs.WayRound as way_round_spec;
 
 use crate::location::{Location, location_of};
@@ -25,9 +24,9 @@ fn shared_among<'a>(
     own: &[Placed<'a>],
     other: &[Placed<'_>],
 ) -> Result<Vec<Placed<'a>>, Memory>
-    requires { AreByKey other.now }
-    ensures { IfOk result (λ shared. map placed_value shared.items
-        ≡ filter (is_shared (map placed_value other.now)) (map placed_value own.now)) }
+    requires { way_round_spec.AreByKey other.now }
+    ensures { IfOk result (λ shared. map placed_spec.placed_value shared.items
+        ≡ filter (way_round_spec.is_shared (map placed_spec.placed_value other.now)) (map placed_spec.placed_value own.now)) }
 {
     let mut shared = Vec::new(alloc);
     for placed in own {
@@ -44,9 +43,9 @@ fn lone_among<'a>(
     own: &[Placed<'a>],
     other: &[Placed<'_>],
 ) -> Result<Vec<Placed<'a>>, Memory>
-    requires { AreByKey other.now }
-    ensures { IfOk result (λ lone. map placed_value lone.items
-        ≡ filter (λ at. not (is_shared (map placed_value other.now) at)) (map placed_value own.now)) }
+    requires { way_round_spec.AreByKey other.now }
+    ensures { IfOk result (λ lone. map placed_spec.placed_value lone.items
+        ≡ filter (λ at. not (way_round_spec.is_shared (map placed_spec.placed_value other.now) at)) (map placed_spec.placed_value own.now)) }
 {
     let mut lone = Vec::new(alloc);
     for placed in own {
@@ -59,7 +58,7 @@ fn lone_among<'a>(
 
 /// Where acts stand.
 fn places_of(alloc: Global, acts: &[Placed<'_>]) -> Result<Vec<Location>, Memory>
-    ensures { IfOk result (λ places. places.items ≡ map locations.location_of (map placed_value acts.now)) }
+    ensures { IfOk result (λ places. places.items ≡ map locations.location_of (map placed_spec.placed_value acts.now)) }
 {
     let mut places = Vec::new(alloc);
     for placed in acts {
@@ -70,7 +69,7 @@ fn places_of(alloc: Global, acts: &[Placed<'_>]) -> Result<Vec<Location>, Memory
 
 /// Whether an act is an answer of a reader.
 fn is_ack_nack(placed: &Placed<'_>) -> bool
-    ensures { result ≡ speech.is_ack_nack (placed_value placed.now).act.body }
+    ensures { result ≡ speech.is_ack_nack (placed_spec.placed_value placed.now).act.body }
 {
     match &placed.act.body {
         SpokenBody::Act(ActBody::AckNack(_)) => true,
@@ -84,22 +83,22 @@ fn is_ack_nack(placed: &Placed<'_>) -> bool
 
 /// Whether an act is one of the writer that stands in the window.
 fn is_act_within(placed: &Placed<'_>, window: &Window) -> bool
-    ensures { result ≡ (not (speech.is_ack_nack (placed_value placed.now).act.body) && is_within window.now.lo window.now.hi (locations.location_of (placed_value placed.now))) }
+    ensures { result ≡ (not (speech.is_ack_nack (placed_spec.placed_value placed.now).act.body) && way_round_spec.is_within window.now.lo window.now.hi (locations.location_of (placed_spec.placed_value placed.now))) }
 {
     !is_ack_nack(placed) && window.has(placed)
 }
 
 /// Whether an act is an answer of the reader that does.
 fn is_answer_within(placed: &Placed<'_>, window: &Window) -> bool
-    ensures { result ≡ (speech.is_ack_nack (placed_value placed.now).act.body && is_within window.now.lo window.now.hi (locations.location_of (placed_value placed.now))) }
+    ensures { result ≡ (speech.is_ack_nack (placed_spec.placed_value placed.now).act.body && way_round_spec.is_within window.now.lo window.now.hi (locations.location_of (placed_spec.placed_value placed.now))) }
 {
     is_ack_nack(placed) && window.has(placed)
 }
 
 /// Whether an act of the writer among these stands in the window.
 fn has_act_within(lone: &[Placed<'_>], window: &Window) -> bool
-    ensures { result ≡ list_any (λ at. not (speech.is_ack_nack at.act.body) && is_within window.now.lo window.now.hi (locations.location_of at))
-        (map placed_value lone.now) }
+    ensures { result ≡ list_any (λ at. not (speech.is_ack_nack at.act.body) && way_round_spec.is_within window.now.lo window.now.hi (locations.location_of at))
+        (map placed_spec.placed_value lone.now) }
 {
     for placed in lone {
         if is_act_within(placed, window) {
@@ -111,8 +110,8 @@ fn has_act_within(lone: &[Placed<'_>], window: &Window) -> bool
 
 /// Whether an answer of the reader among these does.
 fn has_answer_within(lone: &[Placed<'_>], window: &Window) -> bool
-    ensures { result ≡ list_any (λ at. speech.is_ack_nack at.act.body && is_within window.now.lo window.now.hi (locations.location_of at))
-        (map placed_value lone.now) }
+    ensures { result ≡ list_any (λ at. speech.is_ack_nack at.act.body && way_round_spec.is_within window.now.lo window.now.hi (locations.location_of at))
+        (map placed_spec.placed_value lone.now) }
 {
     for placed in lone {
         if is_answer_within(placed, window) {
@@ -134,9 +133,9 @@ struct Lone {
 /// What stands in the window of these acts, if there is one.
 fn lone_within(lone: &[Placed<'_>], window: Option<Window>) -> Lone
     ensures act { MatchOption window (result.act ≡ false)
-        (λ window. result.act ≡ list_any (λ at. not (speech.is_ack_nack at.act.body) && is_within window.lo window.hi (locations.location_of at)) (map placed_value lone.now)) }
+        (λ window. result.act ≡ list_any (λ at. not (speech.is_ack_nack at.act.body) && way_round_spec.is_within window.lo window.hi (locations.location_of at)) (map placed_spec.placed_value lone.now)) }
     ensures answer { MatchOption window (result.answer ≡ false)
-        (λ window. result.answer ≡ list_any (λ at. speech.is_ack_nack at.act.body && is_within window.lo window.hi (locations.location_of at)) (map placed_value lone.now)) }
+        (λ window. result.answer ≡ list_any (λ at. speech.is_ack_nack at.act.body && way_round_spec.is_within window.lo window.hi (locations.location_of at)) (map placed_spec.placed_value lone.now)) }
 {
     match window {
         Some(window) => Lone {
@@ -152,9 +151,9 @@ fn lone_within(lone: &[Placed<'_>], window: Option<Window>) -> Lone
 
 /// What one recording has that the other lacks, by the acts of the two. Those of the other stand by their keys.
 fn lone_in(alloc: Global, own: &[Placed<'_>], other: &[Placed<'_>]) -> Result<Lone, Memory>
-    requires { AreByKey other.now }
-    ensures act { IfOk result (λ lone. lone.act ≡ has_lone_act (map placed_value own.now) (map placed_value other.now)) }
-    ensures answer { IfOk result (λ lone. lone.answer ≡ has_lone_answer (map placed_value own.now) (map placed_value other.now)) }
+    requires { way_round_spec.AreByKey other.now }
+    ensures act { IfOk result (λ lone. lone.act ≡ way_round_spec.has_lone_act (map placed_spec.placed_value own.now) (map placed_spec.placed_value other.now)) }
+    ensures answer { IfOk result (λ lone. lone.answer ≡ way_round_spec.has_lone_answer (map placed_spec.placed_value own.now) (map placed_spec.placed_value other.now)) }
 {
     let shared = shared_among(alloc, own, other)?;
     let mut places = places_of(alloc, &shared)?;
@@ -180,9 +179,9 @@ fn way_by(here: Lone, there: Lone) -> Way
 
 /// Which way round two recordings are, by these acts of the two, which stand by their keys.
 fn way_between(alloc: Global, ours: &[Placed<'_>], theirs: &[Placed<'_>]) -> Result<Way, Memory>
-    requires ours { AreByKey ours.now }
-    requires theirs { AreByKey theirs.now }
-    ensures { IfOk result (λ way. way ≡ way_round_spec.way_between (map placed_value ours.now) (map placed_value theirs.now)) }
+    requires ours { way_round_spec.AreByKey ours.now }
+    requires theirs { way_round_spec.AreByKey theirs.now }
+    ensures { IfOk result (λ way. way ≡ way_round_spec.way_between (map placed_spec.placed_value ours.now) (map placed_spec.placed_value theirs.now)) }
 {
     let here = lone_in(alloc, ours, theirs)?;
     let there = lone_in(alloc, theirs, ours)?;
@@ -196,8 +195,8 @@ pub(crate) fn way_round(
     second: &Index<'_>,
     pair: Pair,
 ) -> Result<Way, Memory>
-    ensures { (one other : Intake) → IsIndexBy one first.now → IsIndexBy other second.now
-        → IfOk result (λ way. way ≡ way_of_pair pair one.acts other.acts) }
+    ensures { (one other : intake.Intake) → index.IsIndexBy one first.now → index.IsIndexBy other second.now
+        → IfOk result (λ way. way ≡ way_round_spec.way_of_pair pair one.acts other.acts) }
 {
     let ours = words_in(alloc, first, pair)?;
     let theirs = words_in(alloc, second, pair)?;

@@ -1,7 +1,7 @@
 ghost use Rattle.std.specs.Prelude.{◌≡◌, false, filter, length, nat_le, IfOk, MatchOption};
-ghost use Rattle.rtps_audit.specs.Placed.{placed_value};
+ghost use Rattle.rtps_audit.specs.Placed as placed_spec;
 ghost use Rattle.rtps_evidence.specs.Locations as locations;
-ghost use Rattle.rtps_evidence.specs.WayRound.{IsWindow, goes_before, is_within};
+ghost use Rattle.rtps_evidence.specs.WayRound as way_round;
 ghost use Rattle.rtps_evidence.specs.declared.location.Location.{Location as Place};
 
 use crate::location::{Location, location_of};
@@ -21,8 +21,8 @@ pub(crate) struct Window {
 /// The window of these places; None where they are too few. It puts them in their order.
 pub(crate) fn window_of(places: &mut Vec<Location>) -> Result<Option<Window>, Memory>
     ensures { IfOk result (λ window. MatchOption window
-        ((place : Place) → nat_le 5 (length (filter (goes_before place) places.old.items)) ≡ false)
-        (λ window. IsWindow places.old.items window.lo window.hi)) }
+        ((place : Place) → nat_le 5 (length (filter (way_round.goes_before place) places.old.items)) ≡ false)
+        (λ window. way_round.IsWindow places.old.items window.lo window.hi)) }
 {
     places.sort()?;
     let count = places.len();
@@ -38,7 +38,7 @@ pub(crate) fn window_of(places: &mut Vec<Location>) -> Result<Option<Window>, Me
 impl Window {
     /// Whether an act stands in it.
     pub(crate) fn has(&self, placed: &Placed<'_>) -> bool
-        ensures { result ≡ is_within self.now.lo self.now.hi (locations.location_of (placed_value placed.now)) }
+        ensures { result ≡ way_round.is_within self.now.lo self.now.hi (locations.location_of (placed_spec.placed_value placed.now)) }
     {
         let place = location_of(placed);
         self.lo < place && place < self.hi

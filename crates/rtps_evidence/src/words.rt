@@ -1,11 +1,10 @@
-ghost use Rattle.std.specs.Prelude.{◌≡◌, ◌++◌, ◌&&◌, filter, map, IfOk, OnOk};
+ghost use Rattle.std.specs.Prelude.{◌≡◌, ◌++◌, filter, map, IfOk, OnOk};
 ghost use Rattle.std.specs.List.{list_any};
-ghost use Rattle.rtps_audit.specs.Index.{IsIndexBy};
-ghost use Rattle.rtps_audit.specs.Intake.{Intake};
-ghost use Rattle.rtps_audit.specs.Placed.{placed_in, placed_value};
-ghost use Rattle.rtps_receiver.specs.Speech.{is_answer};
-ghost use Rattle.rtps_receiver.specs.Values.{spoken_body_value};
-ghost use Rattle.rtps_evidence.specs.WayRound.{AreAsOften, AreByKey, is_act_sent, is_same, is_shared, words_of};
+ghost use Rattle.rtps_audit.specs.Index as index_spec;
+ghost use Rattle.rtps_audit.specs.Intake as intake;
+ghost use Rattle.rtps_audit.specs.Placed as placed_spec;
+ghost use Rattle.rtps_receiver.specs.Speech as speech;
+ghost use Rattle.rtps_receiver.specs.Values as values;
 ghost use Rattle.rtps_evidence.specs.WayRound as way_round;
 
 use crate::act_key::key_of;
@@ -19,7 +18,7 @@ use std::slice;
 
 /// Whether an act stands in a datagram: what fragments are put together to does not.
 fn is_sent(body: &SpokenBody<'_>) -> bool
-    ensures { result ≡ is_act_sent (spoken_body_value body.now) }
+    ensures { result ≡ way_round.is_act_sent (values.spoken_body_value body.now) }
 {
     match body {
         SpokenBody::DataFrag(fragment) => fragment.told.is_none(),
@@ -30,7 +29,7 @@ fn is_sent(body: &SpokenBody<'_>) -> bool
 
 /// Whether an act is one that the pair's writer says to its reader.
 fn is_said_to(placed: &Placed<'_>, pair: Pair) -> bool
-    ensures { result ≡ way_round.is_said_to pair (placed_value placed.now) }
+    ensures { result ≡ way_round.is_said_to pair (placed_spec.placed_value placed.now) }
 {
     is_sent(&placed.act.body)
         && placed.act.spoken_by(pair.writer)
@@ -39,8 +38,8 @@ fn is_said_to(placed: &Placed<'_>, pair: Pair) -> bool
 
 /// Adds those of these acts that the pair's writer says to its reader. After `Memory` the words are of no use.
 fn add_acts<'a>(words: &mut Vec<Placed<'a>>, acts: &[Placed<'a>], pair: Pair) -> Result<(), Memory>
-    ensures { OnOk result (map placed_value words.new.items ≡ map placed_value words.old.items
-        ++ filter (way_round.is_said_to pair) (map placed_value acts.now)) }
+    ensures { OnOk result (map placed_spec.placed_value words.new.items ≡ map placed_spec.placed_value words.old.items
+        ++ filter (way_round.is_said_to pair) (map placed_spec.placed_value acts.now)) }
 {
     for placed in acts {
         if is_said_to(placed, pair) {
@@ -56,8 +55,8 @@ fn add_answers<'a>(
     acts: &[Placed<'a>],
     pair: Pair,
 ) -> Result<(), Memory>
-    ensures { OnOk result (map placed_value words.new.items ≡ map placed_value words.old.items
-        ++ filter (λ at. is_answer at.act pair.reader pair.writer) (map placed_value acts.now)) }
+    ensures { OnOk result (map placed_spec.placed_value words.new.items ≡ map placed_spec.placed_value words.old.items
+        ++ filter (λ at. speech.is_answer at.act pair.reader pair.writer) (map placed_spec.placed_value acts.now)) }
 {
     for placed in acts {
         if placed.act.answers(pair.reader, pair.writer) {
@@ -69,8 +68,8 @@ fn add_answers<'a>(
 
 /// What a pair said in a recording: the writer's acts, and then the reader's answers.
 fn said_in<'a>(alloc: Global, index: &Index<'a>, pair: Pair) -> Result<Vec<Placed<'a>>, Memory>
-    ensures { (intake : Intake) → IsIndexBy intake index.now
-        → IfOk result (λ words. AreAsOften (words_of pair (placed_in intake.acts)) (map placed_value words.items)) }
+    ensures { (intake : intake.Intake) → index_spec.IsIndexBy intake index.now
+        → IfOk result (λ words. way_round.AreAsOften (way_round.words_of pair (placed_spec.placed_in intake.acts)) (map placed_spec.placed_value words.items)) }
 {
     let mut words = Vec::new(alloc);
     add_acts(&mut words, index.acts_of(pair.writer), pair)?;
@@ -84,9 +83,9 @@ pub(crate) fn words_in<'a>(
     index: &Index<'a>,
     pair: Pair,
 ) -> Result<Vec<Placed<'a>>, Memory>
-    ensures words { (intake : Intake) → IsIndexBy intake index.now
-        → IfOk result (λ words. AreAsOften (words_of pair (placed_in intake.acts)) (map placed_value words.items)) }
-    ensures by_key { IfOk result (λ words. AreByKey words.items) }
+    ensures words { (intake : intake.Intake) → index_spec.IsIndexBy intake index.now
+        → IfOk result (λ words. way_round.AreAsOften (way_round.words_of pair (placed_spec.placed_in intake.acts)) (map placed_spec.placed_value words.items)) }
+    ensures by_key { IfOk result (λ words. way_round.AreByKey words.items) }
 {
     let mut words = said_in(alloc, index, pair)?;
     words.sort_by_key(|one| key_of(one))?;
@@ -95,7 +94,7 @@ pub(crate) fn words_in<'a>(
 
 /// Whether one of these acts is the same as this one.
 fn has_same(shelf: &[Placed<'_>], placed: &Placed<'_>) -> bool
-    ensures { result ≡ list_any (is_same (placed_value placed.now)) (map placed_value shelf.now) }
+    ensures { result ≡ list_any (way_round.is_same (placed_spec.placed_value placed.now)) (map placed_spec.placed_value shelf.now) }
 {
     for one in shelf {
         if is_same_act(&placed.act, &one.act) {
@@ -107,8 +106,8 @@ fn has_same(shelf: &[Placed<'_>], placed: &Placed<'_>) -> bool
 
 /// Whether one of these acts, which stand by their keys, is the same as this one.
 pub(crate) fn has(words: &[Placed<'_>], placed: &Placed<'_>) -> bool
-    requires { AreByKey words.now }
-    ensures { result ≡ is_shared (map placed_value words.now) (placed_value placed.now) }
+    requires { way_round.AreByKey words.now }
+    ensures { result ≡ way_round.is_shared (map placed_spec.placed_value words.now) (placed_spec.placed_value placed.now) }
 {
     let key = key_of(placed);
     let start = words.partition_point(|one| key_of(one) < key);

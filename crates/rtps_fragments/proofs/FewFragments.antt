@@ -5,9 +5,11 @@ use Rattle.std.specs.List.{cons_option, filter_map, find}
 use Rattle.std.proofs.lemmas.Bool.Decides.{nat_tests}
 use Rattle.std.proofs.lemmas.Option.{slice_get_cases}
 use Rattle.rtps_audit.proofs.Offered.{contains_cases, contains_none}
-use Rattle.rtps_fragments.specs.FragmentDelivery.{Fragment, Shape, last_fragment, payload_by}
-use Rattle.rtps_fragments.specs.Laws.{FewFragmentsMakeNoSample}
-use Rattle.rtps_fragments.specs.Samples.{came_of, first_of, firsts_of, is_other, samples_by, samples_of}
+use Rattle.rtps_fragments.specs.FragmentDelivery as fragment_delivery
+use Rattle.rtps_wire.specs.declared.data_frag.Shape.{Shape}
+use Rattle.rtps_wire.specs.DataFrag as data_frag
+use Rattle.rtps_fragments.specs.Laws as laws
+use Rattle.rtps_fragments.specs.Samples as samples
 use Rattle.rtps_fragments.proofs.SampleLemmas.{firsts_get}
 use Rattle.rtps_fragments.proofs.Variants.{first_is_there}
 
@@ -53,14 +55,14 @@ enough came (suc k) each =
     let next = up_to_next k octets came among in
     omega arith
 
-few_are_none : (last : ℕ) (came : List (ℕ × List ℕ)) → length came < last → samples_of last came ≡ []
-few_are_none last came few = by (firsts_of came last) refl
+few_are_none : (last : ℕ) (came : List (ℕ × List ℕ)) → length came < last → samples.samples_of last came ≡ []
+few_are_none last came few = by (samples.firsts_of came last) refl
   where
-    by : (o : Option (List (List ℕ))) → firsts_of came last ≡ o → samples_by (firsts_of came last) (find (is_other came) came) ≡ []
-    by None e = ap (λ o. samples_by o (find (is_other came) came)) e
+    by : (o : Option (List (List ℕ))) → samples.firsts_of came last ≡ o → samples.samples_by (samples.firsts_of came last) (find (samples.is_other came) came) ≡ []
+    by None e = ap (λ o. samples.samples_by o (find (samples.is_other came) came)) e
     by (Some parts) e = absurd (too_many (firsts_get came last parts e).0 (firsts_get came last parts e).2)
       where
-        too_many : length parts ≡ last → ((i : ℕ) (octets : List ℕ) → slice_get parts i ≡ Some octets → first_of came (suc i) ≡ Some octets) → ⊥
+        too_many : length parts ≡ last → ((i : ℕ) (octets : List ℕ) → slice_get parts i ≡ Some octets → samples.first_of came (suc i) ≡ Some octets) → ⊥
         too_many count gets =
             let all = enough came last (λ i lt. elim (slice_get_cases parts i).1 [
               | inl found ↦ (found.0, first_is_there came (suc i) found.0 (gets i found.0 found.2))
@@ -69,15 +71,15 @@ few_are_none last came few = by (firsts_of came last) refl
             let most = up_to_all last came in
             omega arith
 
-came_fewer : (n : ℕ) (shape : Shape) (fragments : List Fragment) → length (filter_map (came_of n shape) fragments) ≤ length fragments
+came_fewer : (n : ℕ) (shape : Shape) (fragments : List fragment_delivery.Fragment) → length (filter_map (samples.came_of n shape) fragments) ≤ length fragments
 came_fewer n shape [] = omega arith
-came_fewer n shape (f ∷ fragments) = by (came_of n shape f) (came_fewer n shape fragments)
+came_fewer n shape (f ∷ fragments) = by (samples.came_of n shape f) (came_fewer n shape fragments)
   where
-    by : (o : Option (ℕ × List ℕ)) → length (filter_map (came_of n shape) fragments) ≤ length fragments → length (cons_option o (filter_map (came_of n shape) fragments)) ≤ suc (length fragments)
+    by : (o : Option (ℕ × List ℕ)) → length (filter_map (samples.came_of n shape) fragments) ≤ length fragments → length (cons_option o (filter_map (samples.came_of n shape) fragments)) ≤ suc (length fragments)
     by None rest = omega arith
     by (Some one) rest = omega arith
 
-pub few_fragments_make_no_sample : FewFragmentsMakeNoSample
+pub few_fragments_make_no_sample : laws.FewFragmentsMakeNoSample
 few_fragments_make_no_sample n shape fragments few =
     let fewer = came_fewer n shape fragments in
-    ap (map (payload_by shape)) (few_are_none (last_fragment shape) (filter_map (came_of n shape) fragments) (omega arith))
+    ap (map (fragment_delivery.payload_by shape)) (few_are_none (data_frag.last_fragment shape) (filter_map (samples.came_of n shape) fragments) (omega arith))

@@ -7,20 +7,20 @@ use Rattle.std.proofs.lemmas.List.Elements.{Contains-append_cases, Contains-appe
 use Rattle.std.specs.Cmp.{both_ways}
 use Rattle.std.proofs.lemmas.Bool.{and_parts, and_from}
 use Rattle.rtps_ids.specs.declared.identity.Guid.{Guid}
-use Rattle.rtps_receiver.specs.Speech.{entity_from, is_spoken_by, origin_of, writer_named}
-use Rattle.rtps_receiver.specs.Values.{ActBodyValue, ActValue, FragmentValue}
-use Rattle.rtps_receiver.specs.Values.ActBodyValue.{DataFrag}
-use Rattle.rtps_audit.specs.Speech.{announced_of_body}
+use Rattle.rtps_receiver.specs.Speech as receiver_speech
+use Rattle.rtps_receiver.specs.Values as values
+use Rattle.rtps_audit.specs.Speech as audit_speech
 use Rattle.rtps_audit.proofs.Offered.{contains_head, contains_mapped, contains_none, contains_tail}
-use Rattle.rtps_fragments.specs.Heard.{came_from}
-use Rattle.rtps_fragments.specs.FragmentDelivery.{Piece, Shape, last_fragment, payload_by}
-use Rattle.rtps_fragments.specs.Listeners.{Offer, hearing_of, tells}
-use Rattle.rtps_fragments.specs.Merging.{IsFragmentAct, act_as, acts_told, key_of, merged_from, run_of, run_past, sent_in, sents_from, sents_in}
-use Rattle.rtps_fragments.specs.Samples.{is_of}
-use Rattle.rtps_fragments.specs.SampleActs.{PieceAct, act_of_told, acts_and, offered, offers_of, piece_acts_in, samples_told, sent_to_whom}
-use Rattle.rtps_fragments.specs.ToldSamples.{SentValue, ToldValue, in_turn, is_sample, offer_of, offers, shape_of, told_behind}
+use Rattle.rtps_fragments.specs.Heard as heard
+use Rattle.rtps_fragments.specs.FragmentDelivery as fragment_delivery
+use Rattle.rtps_wire.specs.declared.data_frag.Shape.{Shape}
+use Rattle.rtps_wire.specs.DataFrag as data_frag
+use Rattle.rtps_fragments.specs.Listeners as listeners
+use Rattle.rtps_fragments.specs.Merging as merging
+use Rattle.rtps_fragments.specs.Samples as samples
+use Rattle.rtps_fragments.specs.SampleActs as sample_acts
+use Rattle.rtps_fragments.specs.ToldSamples as told_samples
 use Rattle.rtps_fragments.specs.declared.merging.SampleForm.{SampleForm}
-use Rattle.rtps_fragments.specs.declared.merging.SampleForm.TheVariants.{ForAudience}
 use Rattle.rtps_fragments.specs.declared.piece.SampleKey.{SampleKey}
 use Rattle.rtps_fragments.proofs.SampleActLemmas.{offers_none, offers_one, spoken_is_origin}
 use Rattle.rtps_fragments.proofs.ToldSampleLemmas.{own_sample, sample_is}
@@ -28,64 +28,64 @@ use Rattle.rtps_fragments.proofs.ToldLemmas.{own_shape, same_sample}
 
 -- ---- one act
 
-module _ (one : PieceAct) (piece : Piece) (frag : IsFragmentAct one piece) where
-  pub named : writer_named one.act.body ≡ Some (entity_from one.act.body)
+module _ (one : sample_acts.PieceAct) (piece : fragment_delivery.Piece) (frag : merging.IsFragmentAct one piece) where
+  pub named : receiver_speech.writer_named one.act.body ≡ Some (receiver_speech.entity_from one.act.body)
   named = grind (arith, nat_tests)
 
-  pub spoken_by_own : is_spoken_by one.act (origin_of one.act) ≡ true
+  pub spoken_by_own : receiver_speech.is_spoken_by one.act (receiver_speech.origin_of one.act) ≡ true
   spoken_by_own = search rules
 
   -- the act is of a sample by both tests
-  pub same_test : (key : SampleKey) → is_sample key (key_of one.act piece) ≡ (is_spoken_by one.act key.writer && is_of key.number (shape_of key) piece.number piece.shape)
+  pub same_test : (key : SampleKey) → told_samples.is_sample key (merging.key_of one.act piece) ≡ (receiver_speech.is_spoken_by one.act key.writer && samples.is_of key.number (told_samples.shape_of key) piece.number piece.shape)
   same_test key = both_ways _ _ to from
     where
-      to : is_sample key (key_of one.act piece) ≡ true → (is_spoken_by one.act key.writer && is_of key.number (shape_of key) piece.number piece.shape) ≡ true
-      to e = subst (λ k. (is_spoken_by one.act k.writer && is_of k.number (shape_of k) piece.number piece.shape) ≡ true) (sym (sample_is key (key_of one.act piece) e)) (and_from _ _ spoken_by_own (own_shape piece.number piece.shape))
+      to : told_samples.is_sample key (merging.key_of one.act piece) ≡ true → (receiver_speech.is_spoken_by one.act key.writer && samples.is_of key.number (told_samples.shape_of key) piece.number piece.shape) ≡ true
+      to e = subst (λ k. (receiver_speech.is_spoken_by one.act k.writer && samples.is_of k.number (told_samples.shape_of k) piece.number piece.shape) ≡ true) (sym (sample_is key (merging.key_of one.act piece) e)) (and_from _ _ spoken_by_own (own_shape piece.number piece.shape))
 
-      from : (is_spoken_by one.act key.writer && is_of key.number (shape_of key) piece.number piece.shape) ≡ true → is_sample key (key_of one.act piece) ≡ true
+      from : (receiver_speech.is_spoken_by one.act key.writer && samples.is_of key.number (told_samples.shape_of key) piece.number piece.shape) ≡ true → told_samples.is_sample key (merging.key_of one.act piece) ≡ true
       from e =
-          let (spoken, its) = and_parts (is_spoken_by one.act key.writer) _ e in
+          let (spoken, its) = and_parts (receiver_speech.is_spoken_by one.act key.writer) _ e in
           let writer = spoken_is_origin one.act key.writer named spoken in
-          let (number, shape) = same_sample key.number (shape_of key) piece.number piece.shape its in
+          let (number, shape) = same_sample key.number (told_samples.shape_of key) piece.number piece.shape its in
           let first : Guid → SampleKey = λ w. record { writer = w; number = piece.number; sample = piece.shape.sample; fragment = piece.shape.fragment; is_key = piece.shape.is_key } in
           let second : ℕ → SampleKey = λ n. record { writer = key.writer; number = n; sample = piece.shape.sample; fragment = piece.shape.fragment; is_key = piece.shape.is_key } in
           let third : Shape → SampleKey = λ s. record { writer = key.writer; number = key.number; sample = s.sample; fragment = s.fragment; is_key = s.is_key } in
-          let is : key_of one.act piece ≡ key = ap first writer ∙ ap second number ∙ ap third shape in
-          subst (λ k. is_sample key k ≡ true) (sym is) (own_sample key)
+          let is : merging.key_of one.act piece ≡ key = ap first writer ∙ ap second number ∙ ap third shape in
+          subst (λ k. told_samples.is_sample key k ≡ true) (sym is) (own_sample key)
 
 -- ---- what is sent is what acts send
 
 -- each act with a piece is a DATA_FRAG
-abbrev pub AreFragmentActs : List PieceAct → Type 0
-AreFragmentActs acts = (one : PieceAct) (piece : Piece) → Contains acts one → one.piece ≡ Some piece → IsFragmentAct one piece
+abbrev pub AreFragmentActs : List sample_acts.PieceAct → Type 0
+AreFragmentActs acts = (one : sample_acts.PieceAct) (piece : fragment_delivery.Piece) → Contains acts one → one.piece ≡ Some piece → merging.IsFragmentAct one piece
 
 -- what an act with a piece sends
-abbrev pub sent_by_act : ℕ → ActValue → Piece → SentValue
-sent_by_act i act piece = record { act = i; key = key_of act piece; audience = sent_to_whom act; came = came_from piece.first piece.parts }
+abbrev pub sent_by_act : ℕ → values.ActValue → fragment_delivery.Piece → told_samples.SentValue
+sent_by_act i act piece = record { act = i; key = merging.key_of act piece; audience = sample_acts.sent_to_whom act; came = heard.came_from piece.first piece.parts }
 
 -- the same is sent of each sample
-abbrev pub AreSent : List PieceAct → List SentValue → Type 0
-AreSent acts sents = (key : SampleKey) → offers key sents ≡ offers_of key.writer key.number (shape_of key) acts
+abbrev pub AreSent : List sample_acts.PieceAct → List told_samples.SentValue → Type 0
+AreSent acts sents = (key : SampleKey) → told_samples.offers key sents ≡ sample_acts.offers_of key.writer key.number (told_samples.shape_of key) acts
 
-pub sent_both : (acts more : List PieceAct) (sents others : List SentValue) → AreSent acts sents → AreSent more others → AreSent (acts ++ more) (sents ++ others)
+pub sent_both : (acts more : List sample_acts.PieceAct) (sents others : List told_samples.SentValue) → AreSent acts sents → AreSent more others → AreSent (acts ++ more) (sents ++ others)
 sent_both acts more sents others one other key = grind (arith, nat_tests, common_steps)
 
-pub sent_one : (i : ℕ) (one : PieceAct) → ((piece : Piece) → one.piece ≡ Some piece → IsFragmentAct one piece) → AreSent (one ∷ []) (sent_in i one.act one.piece)
+pub sent_one : (i : ℕ) (one : sample_acts.PieceAct) → ((piece : fragment_delivery.Piece) → one.piece ≡ Some piece → merging.IsFragmentAct one piece) → AreSent (one ∷ []) (merging.sent_in i one.act one.piece)
 sent_one i one frag key = grind (arith, nat_tests, common_steps, offers_none, same_test, offers_one)
 
 -- what acts send, from any place on
-pub sent_acts : (i : ℕ) (acts : List PieceAct) → AreFragmentActs acts → AreSent acts (sents_from i acts)
+pub sent_acts : (i : ℕ) (acts : List sample_acts.PieceAct) → AreFragmentActs acts → AreSent acts (merging.sents_from i acts)
 sent_acts i [] frags = λ key. refl
 sent_acts i (one ∷ acts) frags =
-    sent_both (one ∷ []) acts (sent_in i one.act one.piece) (sents_from (suc i) acts) (sent_one i one (λ piece e. frags one piece (contains_head one acts) e))
+    sent_both (one ∷ []) acts (merging.sent_in i one.act one.piece) (merging.sents_from (suc i) acts) (sent_one i one (λ piece e. frags one piece (contains_head one acts) e))
     (sent_acts (suc i) acts (λ other piece among e. frags other piece (contains_tail one acts other among) e))
 
 -- what the acts of all datagrams send
-pub sent_all : (recording : List (List PieceAct)) → AreFragmentActs (piece_acts_in recording) → AreSent (piece_acts_in recording) (sents_in recording)
+pub sent_all : (recording : List (List sample_acts.PieceAct)) → AreFragmentActs (sample_acts.piece_acts_in recording) → AreSent (sample_acts.piece_acts_in recording) (merging.sents_in recording)
 sent_all [] frags = λ key. refl
 sent_all (acts ∷ recording) frags =
-    sent_both acts (piece_acts_in recording) (sents_from 0 acts) (sents_in recording) (sent_acts 0 acts (λ one piece among e. frags one piece (Contains-append_left acts (piece_acts_in recording) one among) e))
-    (sent_all recording (λ one piece among e. frags one piece (Contains-append_right acts (piece_acts_in recording) one among) e))
+    sent_both acts (sample_acts.piece_acts_in recording) (merging.sents_from 0 acts) (merging.sents_in recording) (sent_acts 0 acts (λ one piece among e. frags one piece (Contains-append_left acts (sample_acts.piece_acts_in recording) one among) e))
+    (sent_all recording (λ one piece among e. frags one piece (Contains-append_right acts (sample_acts.piece_acts_in recording) one among) e))
 
 -- ---- what an act tells
 
@@ -94,119 +94,119 @@ map_map h f [] = refl
 map_map h f (x ∷ xs) = ap (λ zs. h (f x) ∷ zs) (map_map h f xs)
 
 -- a sample that an act tells, as an act
-abbrev pub act_told : SampleForm → ActValue → ToldValue → ActValue
-act_told form act told = act_as form act (unwrap_or (announced_of_body act.body) 0) told
+abbrev pub act_told : SampleForm → values.ActValue → told_samples.ToldValue → values.ActValue
+act_told form act told = merging.act_as form act (unwrap_or (audit_speech.announced_of_body act.body) 0) told
 
 -- of a DATA_FRAG they are those that it tells
-pub acts_are : (form : SampleForm) (act : ActValue) (value : FragmentValue) (told : List ToldValue) → act.body ≡ DataFrag value → acts_told form act act.body told ≡ map (act_told form act) told
+pub acts_are : (form : SampleForm) (act : values.ActValue) (value : values.FragmentValue) (told : List told_samples.ToldValue) → act.body ≡ values.ActBodyValue.DataFrag value → merging.acts_told form act act.body told ≡ map (act_told form act) told
 acts_are form act value told e = grind (arith, nat_tests, common_steps)
 
-pub no_acts : (form : SampleForm) (act : ActValue) (body : ActBodyValue) → acts_told form act body [] ≡ []
+pub no_acts : (form : SampleForm) (act : values.ActValue) (body : values.ActBodyValue) → merging.acts_told form act body [] ≡ []
 no_acts form act body = grind (arith, nat_tests)
 
-pub number_is : (one : PieceAct) (piece : Piece) → IsFragmentAct one piece → unwrap_or (announced_of_body one.act.body) 0 ≡ piece.number
-number_is one piece frag = ap (λ b. unwrap_or (announced_of_body b) 0) frag.body ∙ frag.number
+pub number_is : (one : sample_acts.PieceAct) (piece : fragment_delivery.Piece) → merging.IsFragmentAct one piece → unwrap_or (audit_speech.announced_of_body one.act.body) 0 ≡ piece.number
+number_is one piece frag = ap (λ b. unwrap_or (audit_speech.announced_of_body b) 0) frag.body ∙ frag.number
 
 -- ---- places
 
 pub if_among : {X : Type 0} (b : Bool) (xs : List X) (x : X) → Contains (cond b xs []) x → Contains xs x
 if_among b xs x h = grind (arith, nat_tests, common_steps, contains_none)
 
-pub sent_at : (i : ℕ) (act : ActValue) (o : Option Piece) (sent : SentValue) → Contains (sent_in i act o) sent → sent.act ≡ i
+pub sent_at : (i : ℕ) (act : values.ActValue) (o : Option fragment_delivery.Piece) (sent : told_samples.SentValue) → Contains (merging.sent_in i act o) sent → sent.act ≡ i
 sent_at i act o sent h = grind (arith, nat_tests)
 
-pub sent_behind : (i : ℕ) (acts : List PieceAct) (sent : SentValue) → Contains (sents_from i acts) sent → i ≤ sent.act
+pub sent_behind : (i : ℕ) (acts : List sample_acts.PieceAct) (sent : told_samples.SentValue) → Contains (merging.sents_from i acts) sent → i ≤ sent.act
 sent_behind i [] sent among = absurd (contains_none sent among)
-sent_behind i (one ∷ acts) sent among = elim (Contains-append_cases (sent_in i one.act one.piece) (sents_from (suc i) acts) sent among) [
+sent_behind i (one ∷ acts) sent among = elim (Contains-append_cases (merging.sent_in i one.act one.piece) (merging.sents_from (suc i) acts) sent among) [
   | inl here ↦ let is = sent_at i one.act one.piece sent here in omega arith
   | inr there ↦ let le = sent_behind (suc i) acts sent there in omega arith
 ]
 
 -- what is told at a place comes before what is told behind it
-runs : (i : ℕ) (own rest : List ToldValue) → ((one : ToldValue) → Contains own one → one.act ≡ i) → ((one : ToldValue) → Contains rest one → i < one.act) → (run_of i (own ++ rest) ≡ own) × (run_past i (own ++ rest) ≡ rest)
+runs : (i : ℕ) (own rest : List told_samples.ToldValue) → ((one : told_samples.ToldValue) → Contains own one → one.act ≡ i) → ((one : told_samples.ToldValue) → Contains rest one → i < one.act) → (merging.run_of i (own ++ rest) ≡ own) × (merging.run_past i (own ++ rest) ≡ rest)
 runs i [] [] here past = (refl, refl)
 runs i [] (one ∷ rest) here past =
     let apart = later one.act i (past one (contains_head one rest)) in
-    (ap (λ b. cond b (one ∷ run_of i rest) []) apart, ap (λ b. cond b (run_past i rest) (one ∷ rest)) apart)
+    (ap (λ b. cond b (one ∷ merging.run_of i rest) []) apart, ap (λ b. cond b (merging.run_past i rest) (one ∷ rest)) apart)
   where
     later : (a b : ℕ) → b < a → (a == b) ≡ false
     later a b lt = grind (arith, nat_tests)
 runs i (one ∷ own) rest here past =
     let same = (Decides-eqb one.act i).1 (here one (contains_head one own)) in
     let (run, behind) = runs i own rest (λ other among. here other (contains_tail one own other among)) past in
-    (ap (λ b. cond b (one ∷ run_of i (own ++ rest)) []) same ∙ ap (λ ts. one ∷ ts) run, ap (λ b. cond b (run_past i (own ++ rest)) (one ∷ (own ++ rest))) same ∙ behind)
+    (ap (λ b. cond b (one ∷ merging.run_of i (own ++ rest)) []) same ∙ ap (λ ts. one ∷ ts) run, ap (λ b. cond b (merging.run_past i (own ++ rest)) (one ∷ (own ++ rest))) same ∙ behind)
 
 -- the first of these acts, with what is told at its place
-pub merged_one : (form : SampleForm) (i : ℕ) (act : ActValue) (acts : List ActValue) (own rest : List ToldValue) → ((one : ToldValue) → Contains own one → one.act ≡ i) → ((one : ToldValue) → Contains rest one → i < one.act)
-    → merged_from form i (act ∷ acts) (own ++ rest) ≡ act ∷ (acts_told form act act.body own ++ merged_from form (suc i) acts rest)
+pub merged_one : (form : SampleForm) (i : ℕ) (act : values.ActValue) (acts : List values.ActValue) (own rest : List told_samples.ToldValue) → ((one : told_samples.ToldValue) → Contains own one → one.act ≡ i) → ((one : told_samples.ToldValue) → Contains rest one → i < one.act)
+    → merging.merged_from form i (act ∷ acts) (own ++ rest) ≡ act ∷ (merging.acts_told form act act.body own ++ merging.merged_from form (suc i) acts rest)
 merged_one form i act acts own rest here past = grind (arith, nat_tests, common_steps, runs)
 
 -- ---- the acts of a datagram
 
 -- What is told by what is sent, of each act, at its place, is what stands behind the act.
-pub record TellsAs (form : SampleForm) (tell : List SentValue → SentValue → List ToldValue) (others : List PieceAct → ActValue → Option Piece → List ActValue) : Type 0 where
-  pub own : (before : List PieceAct) (sents : List SentValue) → AreSent before sents → (i : ℕ) (one : PieceAct) (piece : Piece) → IsFragmentAct one piece
+pub record TellsAs (form : SampleForm) (tell : List told_samples.SentValue → told_samples.SentValue → List told_samples.ToldValue) (others : List sample_acts.PieceAct → values.ActValue → Option fragment_delivery.Piece → List values.ActValue) : Type 0 where
+  pub own : (before : List sample_acts.PieceAct) (sents : List told_samples.SentValue) → AreSent before sents → (i : ℕ) (one : sample_acts.PieceAct) (piece : fragment_delivery.Piece) → merging.IsFragmentAct one piece
       → map (act_told form one.act) (tell sents (sent_by_act i one.act piece)) ≡ others before one.act (Some piece)
-  pub none : (before : List PieceAct) (act : ActValue) → others before act None ≡ []
-  pub place : (sents : List SentValue) (sent : SentValue) (told : ToldValue) → Contains (tell sents sent) told → told.act ≡ sent.act
+  pub none : (before : List sample_acts.PieceAct) (act : values.ActValue) → others before act None ≡ []
+  pub place : (sents : List told_samples.SentValue) (sent : told_samples.SentValue) (told : told_samples.ToldValue) → Contains (tell sents sent) told → told.act ≡ sent.act
 
-module _ (form : SampleForm) (tell : List SentValue → SentValue → List ToldValue) (others : List PieceAct → ActValue → Option Piece → List ActValue) (tells_as : TellsAs form tell others) where
-  told_from_sent : (before sents : List SentValue) (told : ToldValue) → Contains (in_turn tell before sents) told → (sent : SentValue) × Contains sents sent × (told.act ≡ sent.act)
+module _ (form : SampleForm) (tell : List told_samples.SentValue → told_samples.SentValue → List told_samples.ToldValue) (others : List sample_acts.PieceAct → values.ActValue → Option fragment_delivery.Piece → List values.ActValue) (tells_as : TellsAs form tell others) where
+  told_from_sent : (before sents : List told_samples.SentValue) (told : told_samples.ToldValue) → Contains (told_samples.in_turn tell before sents) told → (sent : told_samples.SentValue) × Contains sents sent × (told.act ≡ sent.act)
   told_from_sent before [] told among = absurd (contains_none told among)
-  told_from_sent before (sent ∷ sents) told among = elim (Contains-append_cases (tell before sent) (in_turn tell (before ++ sent ∷ []) sents) told among) [
+  told_from_sent before (sent ∷ sents) told among = elim (Contains-append_cases (tell before sent) (told_samples.in_turn tell (before ++ sent ∷ []) sents) told among) [
     | inl here ↦ (sent, contains_head sent sents, tells_as.place before sent told here)
     | inr there ↦ let (other, among, is) = told_from_sent (before ++ sent ∷ []) sents told there in (other, contains_tail sent sents other among, is)
   ]
 
-  in_turn-append : (before sents more : List SentValue) → in_turn tell before (sents ++ more) ≡ in_turn tell before sents ++ in_turn tell (before ++ sents) more
-  in_turn-append before [] more = ap (λ ss. in_turn tell ss more) (sym (append-nil before))
+  in_turn-append : (before sents more : List told_samples.SentValue) → told_samples.in_turn tell before (sents ++ more) ≡ told_samples.in_turn tell before sents ++ told_samples.in_turn tell (before ++ sents) more
+  in_turn-append before [] more = ap (λ ss. told_samples.in_turn tell ss more) (sym (append-nil before))
   in_turn-append before (sent ∷ sents) more =
       ap (λ ts. tell before sent ++ ts) (in_turn-append (before ++ sent ∷ []) sents more)
-      ∙ sym (append_assoc (tell before sent) (in_turn tell (before ++ sent ∷ []) sents) (in_turn tell ((before ++ sent ∷ []) ++ sents) more))
-      ∙ ap (λ ss. in_turn tell before (sent ∷ sents) ++ in_turn tell ss more) (append_assoc before (sent ∷ []) sents)
+      ∙ sym (append_assoc (tell before sent) (told_samples.in_turn tell (before ++ sent ∷ []) sents) (told_samples.in_turn tell ((before ++ sent ∷ []) ++ sents) more))
+      ∙ ap (λ ss. told_samples.in_turn tell before (sent ∷ sents) ++ told_samples.in_turn tell ss more) (append_assoc before (sent ∷ []) sents)
 
-  own_told : (before : List PieceAct) (sents : List SentValue) → AreSent before sents → (i : ℕ) (one : PieceAct) → ((piece : Piece) → one.piece ≡ Some piece → IsFragmentAct one piece)
-      → acts_told form one.act one.act.body (in_turn tell sents (sent_in i one.act one.piece)) ≡ others before one.act one.piece
+  own_told : (before : List sample_acts.PieceAct) (sents : List told_samples.SentValue) → AreSent before sents → (i : ℕ) (one : sample_acts.PieceAct) → ((piece : fragment_delivery.Piece) → one.piece ≡ Some piece → merging.IsFragmentAct one piece)
+      → merging.acts_told form one.act one.act.body (told_samples.in_turn tell sents (merging.sent_in i one.act one.piece)) ≡ others before one.act one.piece
   own_told before sents so_far i one frag = by one.piece refl
     where
-      by : (o : Option Piece) → one.piece ≡ o → acts_told form one.act one.act.body (in_turn tell sents (sent_in i one.act o)) ≡ others before one.act o
+      by : (o : Option fragment_delivery.Piece) → one.piece ≡ o → merging.acts_told form one.act one.act.body (told_samples.in_turn tell sents (merging.sent_in i one.act o)) ≡ others before one.act o
       by None e = no_acts form one.act one.act.body ∙ sym (tells_as.none before one.act)
       by (Some piece) e =
           acts_are form one.act (frag piece e).value (tell sents (sent_by_act i one.act piece) ++ []) (frag piece e).body
           ∙ ap (map (act_told form one.act)) (append-nil (tell sents (sent_by_act i one.act piece))) ∙ tells_as.own before sents so_far i one piece (frag piece e)
 
-  pub merged_is : (before : List PieceAct) (sents : List SentValue) → AreSent before sents → (i : ℕ) (acts : List PieceAct) → AreFragmentActs acts
-      → merged_from form i (map (λ one. one.act) acts) (in_turn tell sents (sents_from i acts)) ≡ acts_and others before acts
+  pub merged_is : (before : List sample_acts.PieceAct) (sents : List told_samples.SentValue) → AreSent before sents → (i : ℕ) (acts : List sample_acts.PieceAct) → AreFragmentActs acts
+      → merging.merged_from form i (map (λ one. one.act) acts) (told_samples.in_turn tell sents (merging.sents_from i acts)) ≡ sample_acts.acts_and others before acts
   merged_is before sents so_far i [] frags = refl
   merged_is before sents so_far i (one ∷ acts) frags =
-      let sent = sent_in i one.act one.piece in
-      let rest = in_turn tell (sents ++ sent) (sents_from (suc i) acts) in
-      ap (merged_from form i (map (λ (p : PieceAct). p.act) (one ∷ acts))) (in_turn-append sents sent (sents_from (suc i) acts))
-      ∙ merged_one form i one.act (map (λ (p : PieceAct). p.act) acts) (in_turn tell sents sent) rest own_at rest_at
-      ∙ ap (λ xs. one.act ∷ (xs ++ merged_from form (suc i) (map (λ (p : PieceAct). p.act) acts) rest)) (own_told before sents so_far i one frag)
+      let sent = merging.sent_in i one.act one.piece in
+      let rest = told_samples.in_turn tell (sents ++ sent) (merging.sents_from (suc i) acts) in
+      ap (merging.merged_from form i (map (λ (p : sample_acts.PieceAct). p.act) (one ∷ acts))) (in_turn-append sents sent (merging.sents_from (suc i) acts))
+      ∙ merged_one form i one.act (map (λ (p : sample_acts.PieceAct). p.act) acts) (told_samples.in_turn tell sents sent) rest own_at rest_at
+      ∙ ap (λ xs. one.act ∷ (xs ++ merging.merged_from form (suc i) (map (λ (p : sample_acts.PieceAct). p.act) acts) rest)) (own_told before sents so_far i one frag)
       ∙ ap (λ xs. one.act ∷ (others before one.act one.piece ++ xs)) (merged_is (before ++ one ∷ []) (sents ++ sent) (sent_both before (one ∷ []) sents sent so_far (sent_one i one frag)) (suc i) acts (λ other piece among e. frags other piece (contains_tail one acts other among) e))
     where
-      frag : (piece : Piece) → one.piece ≡ Some piece → IsFragmentAct one piece
+      frag : (piece : fragment_delivery.Piece) → one.piece ≡ Some piece → merging.IsFragmentAct one piece
       frag piece e = frags one piece (contains_head one acts) e
 
-      own_at : (told : ToldValue) → Contains (in_turn tell sents (sent_in i one.act one.piece)) told → told.act ≡ i
-      own_at told among = let (from, there, is) = told_from_sent sents (sent_in i one.act one.piece) told among in is ∙ sent_at i one.act one.piece from there
+      own_at : (told : told_samples.ToldValue) → Contains (told_samples.in_turn tell sents (merging.sent_in i one.act one.piece)) told → told.act ≡ i
+      own_at told among = let (from, there, is) = told_from_sent sents (merging.sent_in i one.act one.piece) told among in is ∙ sent_at i one.act one.piece from there
 
-      rest_at : (told : ToldValue) → Contains (in_turn tell (sents ++ sent_in i one.act one.piece) (sents_from (suc i) acts)) told → i < told.act
-      rest_at told among = let (from, there, is) = told_from_sent (sents ++ sent_in i one.act one.piece) (sents_from (suc i) acts) told among in let le = sent_behind (suc i) acts from there in omega arith
+      rest_at : (told : told_samples.ToldValue) → Contains (told_samples.in_turn tell (sents ++ merging.sent_in i one.act one.piece) (merging.sents_from (suc i) acts)) told → i < told.act
+      rest_at told among = let (from, there, is) = told_from_sent (sents ++ merging.sent_in i one.act one.piece) (merging.sents_from (suc i) acts) told among in let le = sent_behind (suc i) acts from there in omega arith
 
 -- listeners are told so
-pub told_as_samples : TellsAs ForAudience told_behind samples_told
+pub told_as_samples : TellsAs SampleForm.ForAudience told_samples.told_behind sample_acts.samples_told
 told_as_samples = record {
   own = λ before sents so_far i one piece frag.
-      let last = last_fragment piece.shape in
-      let told : Offer → Type 0 = λ o. Unit {0} in
-      let each = tells last (hearing_of (offers (key_of one.act piece) sents)) (offered one.act piece) in
-      map_map (act_told ForAudience one.act) (λ p. let t : ToldValue = record { act = i; audience = p.0; payload = payload_by piece.shape p.1 } in t) each
-      ∙ ap (λ n. map (λ p. act_as ForAudience one.act n (record { act = i; audience = p.0; payload = payload_by piece.shape p.1 })) each) (number_is one piece frag)
-      ∙ ap (λ (os : List Offer). map (act_of_told one.act piece) (tells last (hearing_of os) (offered one.act piece))) (so_far (key_of one.act piece));
+      let last = data_frag.last_fragment piece.shape in
+      let told : listeners.Offer → Type 0 = λ o. Unit {0} in
+      let each = listeners.tells last (listeners.hearing_of (told_samples.offers (merging.key_of one.act piece) sents)) (sample_acts.offered one.act piece) in
+      map_map (act_told SampleForm.ForAudience one.act) (λ p. let t : told_samples.ToldValue = record { act = i; audience = p.0; payload = fragment_delivery.payload_by piece.shape p.1 } in t) each
+      ∙ ap (λ n. map (λ p. merging.act_as SampleForm.ForAudience one.act n (record { act = i; audience = p.0; payload = fragment_delivery.payload_by piece.shape p.1 })) each) (number_is one piece frag)
+      ∙ ap (λ (os : List listeners.Offer). map (sample_acts.act_of_told one.act piece) (listeners.tells last (listeners.hearing_of os) (sample_acts.offered one.act piece))) (so_far (merging.key_of one.act piece));
   none = λ before act. refl;
   place = λ sents sent told among.
-      let (one, there, is) = contains_mapped (λ p. let t : ToldValue = record { act = sent.act; audience = p.0; payload = payload_by (shape_of sent.key) p.1 } in t) (tells (last_fragment (shape_of sent.key)) (hearing_of (offers sent.key sents)) (offer_of sent)) told among in
-      ap (λ (t : ToldValue). t.act) (sym is);
+      let (one, there, is) = contains_mapped (λ p. let t : told_samples.ToldValue = record { act = sent.act; audience = p.0; payload = fragment_delivery.payload_by (told_samples.shape_of sent.key) p.1 } in t) (listeners.tells (data_frag.last_fragment (told_samples.shape_of sent.key)) (listeners.hearing_of (told_samples.offers sent.key sents)) (told_samples.offer_of sent)) told among in
+      ap (λ (t : told_samples.ToldValue). t.act) (sym is);
 }

@@ -7,26 +7,26 @@ use Rattle.std.specs.List.{concat, find}
 use Rattle.std.proofs.lemmas.List.{append_cancel_left, append_cancel_right, length-set}
 use Rattle.std.proofs.lemmas.Option.{slice_get_cases}
 use Rattle.rtps_audit.proofs.Offered.{contains_cases, contains_head, contains_none}
-use Rattle.rtps_fragments.specs.Samples.{first_of, is_other, firsts_of, samples_by, samples_of}
+use Rattle.rtps_fragments.specs.Samples as samples
 use Rattle.rtps_fragments.proofs.Variants.{parts_length, parts_get, parts_exist, parts_are, first_is_there, first_of_all, firsts_stay, other_stays, none_other, other_differs}
 
 -- ---- what more comes only adds
 
 grow_by : (a b : Option (List (List ℕ))) (c d : Option (ℕ × List ℕ)) → ((parts : List (List ℕ)) → a ≡ Some parts → b ≡ Some parts) → ((one : ℕ × List ℕ) → c ≡ Some one → d ≡ Some one)
-    → (rest : List (List ℕ)) × (samples_by b d ≡ samples_by a c ++ rest)
-grow_by None b c d f g = (samples_by b d, refl)
+    → (rest : List (List ℕ)) × (samples.samples_by b d ≡ samples.samples_by a c ++ rest)
+grow_by None b c d f g = (samples.samples_by b d, refl)
 grow_by (Some parts) b None d f g = by d
   where
-    by : (d : Option (ℕ × List ℕ)) → (rest : List (List ℕ)) × (samples_by b d ≡ samples_by (Some parts) None ++ rest)
-    by None = ([], ap (λ o. samples_by o None) (f parts refl))
-    by (Some one) = (concat (set parts (pred one.0) one.1) ∷ [], ap (λ o. samples_by o (Some one)) (f parts refl))
-grow_by (Some parts) b (Some one) d f g = ([], ap (λ o. samples_by o d) (f parts refl) ∙ ap (samples_by (Some parts)) (g one refl))
+    by : (d : Option (ℕ × List ℕ)) → (rest : List (List ℕ)) × (samples.samples_by b d ≡ samples.samples_by (Some parts) None ++ rest)
+    by None = ([], ap (λ o. samples.samples_by o None) (f parts refl))
+    by (Some one) = (concat (set parts (pred one.0) one.1) ∷ [], ap (λ o. samples.samples_by o (Some one)) (f parts refl))
+grow_by (Some parts) b (Some one) d f g = ([], ap (λ o. samples.samples_by o d) (f parts refl) ∙ ap (samples.samples_by (Some parts)) (g one refl))
 
 -- of nothing
-pub none_yet : (last : ℕ) → samples_of last [] ≡ []
+pub none_yet : (last : ℕ) → samples.samples_of last [] ≡ []
 none_yet last = grind (arith, nat_tests)
 
-pub samples_grow : (last : ℕ) (came more : List (ℕ × List ℕ)) → (rest : List (List ℕ)) × (samples_of last (came ++ more) ≡ samples_of last came ++ rest)
+pub samples_grow : (last : ℕ) (came more : List (ℕ × List ℕ)) → (rest : List (List ℕ)) × (samples.samples_of last (came ++ more) ≡ samples.samples_of last came ++ rest)
 samples_grow last came more = grind (arith, nat_tests, common_steps, grow_by, firsts_stay, other_stays)
 
 -- ---- picks
@@ -39,23 +39,23 @@ ArePicks came parts = (i : ℕ) (octets : List ℕ) → slice_get parts i ≡ So
 abbrev pub AreWithin : ℕ → List (ℕ × List ℕ) → Type 0
 AreWithin last came = (one : ℕ × List ℕ) → Contains came one → (0 < one.0) × (one.0 ≤ last)
 
-firsts_exist : (came : List (ℕ × List ℕ)) (parts : List (List ℕ)) → 0 < length parts → ArePicks came parts → (firsts : List (List ℕ)) × (firsts_of came (length parts) ≡ Some firsts)
+firsts_exist : (came : List (ℕ × List ℕ)) (parts : List (List ℕ)) → 0 < length parts → ArePicks came parts → (firsts : List (List ℕ)) × (samples.firsts_of came (length parts) ≡ Some firsts)
 firsts_exist came [] some picks = absurd (omega arith)
-firsts_exist came (part ∷ parts) some picks = parts_exist (λ i. first_of came (suc i)) (suc (length parts)) each
+firsts_exist came (part ∷ parts) some picks = parts_exist (λ i. samples.first_of came (suc i)) (suc (length parts)) each
   where
-    each : (i : ℕ) → i < suc (length parts) → (octets : List ℕ) × (first_of came (suc i) ≡ Some octets)
+    each : (i : ℕ) → i < suc (length parts) → (octets : List ℕ) × (samples.first_of came (suc i) ≡ Some octets)
     each i lt = elim (slice_get_cases (part ∷ parts) i).1 [
       | inl found ↦ first_of_all came (suc i, found.0) (picks i found.0 found.2)
       | inr past ↦ absurd (let le = past.0 in omega arith)
     ]
 
-first_sample : (parts : List (List ℕ)) (other : Option (ℕ × List ℕ)) → Contains (samples_by (Some parts) other) (concat parts)
+first_sample : (parts : List (List ℕ)) (other : Option (ℕ × List ℕ)) → Contains (samples.samples_by (Some parts) other) (concat parts)
 first_sample parts other = grind (arith, nat_tests, common_steps, contains_head, set, pred)
 
 -- where nothing came otherwise, what is picked is what came first
-picks_are_firsts : (came : List (ℕ × List ℕ)) (parts : List (List ℕ)) → 0 < length parts → ArePicks came parts → find (is_other came) came ≡ None → firsts_of came (length parts) ≡ Some parts
+picks_are_firsts : (came : List (ℕ × List ℕ)) (parts : List (List ℕ)) → 0 < length parts → ArePicks came parts → find (samples.is_other came) came ≡ None → samples.firsts_of came (length parts) ≡ Some parts
 picks_are_firsts came [] some picks none = absurd (omega arith)
-picks_are_firsts came (part ∷ parts) some picks none = parts_are (λ i. first_of came (suc i)) (part ∷ parts) (λ i octets at. none_other came none (suc i) octets (picks i octets at))
+picks_are_firsts came (part ∷ parts) some picks none = parts_are (λ i. samples.first_of came (suc i)) (part ∷ parts) (λ i octets at. none_other came none (suc i) octets (picks i octets at))
 
 -- other octets in place of one part make other octets in all
 set_differs : (parts : List (List ℕ)) (j : ℕ) (first octets : List ℕ) → slice_get parts j ≡ Some first → (first ≡ octets → ⊥) → concat parts ≡ concat (set parts j octets) → ⊥
@@ -65,16 +65,16 @@ set_differs (part ∷ parts) zero first octets at differ same =
     differ (sym is ∙ append_cancel_right part octets (concat parts) same)
 set_differs (part ∷ parts) (suc j) first octets at differ same = set_differs parts j first octets at differ (append_cancel_left part (concat parts) (concat (set parts j octets)) same)
 
-pub firsts_get : (came : List (ℕ × List ℕ)) (last : ℕ) (parts : List (List ℕ)) → firsts_of came last ≡ Some parts
-    → (length parts ≡ last) × (0 < last) × ((i : ℕ) (octets : List ℕ) → slice_get parts i ≡ Some octets → first_of came (suc i) ≡ Some octets)
+pub firsts_get : (came : List (ℕ × List ℕ)) (last : ℕ) (parts : List (List ℕ)) → samples.firsts_of came last ≡ Some parts
+    → (length parts ≡ last) × (0 < last) × ((i : ℕ) (octets : List ℕ) → slice_get parts i ≡ Some octets → samples.first_of came (suc i) ≡ Some octets)
 firsts_get came last parts h = grind (arith, nat_tests, common_steps, parts_length, parts_get)
 
 -- ---- both are there, and differ
 
-second_sample : (parts : List (List ℕ)) (one : ℕ × List ℕ) → Contains (samples_by (Some parts) (Some one)) (concat (set parts (pred one.0) one.1))
+second_sample : (parts : List (List ℕ)) (one : ℕ × List ℕ) → Contains (samples.samples_by (Some parts) (Some one)) (concat (set parts (pred one.0) one.1))
 second_sample parts one = grind (arith, nat_tests)
 
-second_differs : (came : List (ℕ × List ℕ)) (last : ℕ) (parts : List (List ℕ)) (one : ℕ × List ℕ) → firsts_of came last ≡ Some parts → find (is_other came) came ≡ Some one → AreWithin last came
+second_differs : (came : List (ℕ × List ℕ)) (last : ℕ) (parts : List (List ℕ)) (one : ℕ × List ℕ) → samples.firsts_of came last ≡ Some parts → find (samples.is_other came) came ≡ Some one → AreWithin last came
     → concat parts ≡ concat (set parts (pred one.0) one.1) → ⊥
 second_differs came last parts (zero, octets) e is within same = let bounds = within (zero, octets) (other_differs came (zero, octets) is).0 in absurd (let lt = bounds.0 in omega arith)
 second_differs came last parts (suc j, octets) e is within same = elim (slice_get_cases parts j).1 [
@@ -82,32 +82,32 @@ second_differs came last parts (suc j, octets) e is within same = elim (slice_ge
   | inr past ↦ let bounds = within (suc j, octets) differs.0 in let le = bounds.1 in let length_is = gets.0 in let beyond = past.0 in omega arith
 ]
   where
-    gets : (length parts ≡ last) × (0 < last) × ((i : ℕ) (octets : List ℕ) → slice_get parts i ≡ Some octets → first_of came (suc i) ≡ Some octets)
+    gets : (length parts ≡ last) × (0 < last) × ((i : ℕ) (octets : List ℕ) → slice_get parts i ≡ Some octets → samples.first_of came (suc i) ≡ Some octets)
     gets = firsts_get came last parts e
 
-    differs : Contains came (suc j, octets) × ((first : List ℕ) → first_of came (suc j) ≡ Some first → first ≡ octets → ⊥)
+    differs : Contains came (suc j, octets) × ((first : List ℕ) → samples.first_of came (suc j) ≡ Some first → first ≡ octets → ⊥)
     differs = other_differs came (suc j, octets) is
 
 -- two samples are told, which differ
 abbrev pub HasTwo : ℕ → List (ℕ × List ℕ) → Type 0
-HasTwo last came = (x : List ℕ) × (y : List ℕ) × Contains (samples_of last came) x × Contains (samples_of last came) y × (x ≡ y → ⊥)
+HasTwo last came = (x : List ℕ) × (y : List ℕ) × Contains (samples.samples_of last came) x × Contains (samples.samples_of last came) y × (x ≡ y → ⊥)
 
 -- whatever is picked is told, or two are told that differ
 pub two : (came : List (ℕ × List ℕ)) (parts : List (List ℕ)) → 0 < length parts → ArePicks came parts → AreWithin (length parts) came
-    → Contains (samples_of (length parts) came) (concat parts) ⊎ HasTwo (length parts) came
-two came parts some picks within = by (find (is_other came) came) refl
+    → Contains (samples.samples_of (length parts) came) (concat parts) ⊎ HasTwo (length parts) came
+two came parts some picks within = by (find (samples.is_other came) came) refl
   where
-    whole : (firsts : List (List ℕ)) × (firsts_of came (length parts) ≡ Some firsts)
+    whole : (firsts : List (List ℕ)) × (samples.firsts_of came (length parts) ≡ Some firsts)
     whole = firsts_exist came parts some picks
 
-    by : (other : Option (ℕ × List ℕ)) → find (is_other came) came ≡ other → Contains (samples_of (length parts) came) (concat parts) ⊎ HasTwo (length parts) came
+    by : (other : Option (ℕ × List ℕ)) → find (samples.is_other came) came ≡ other → Contains (samples.samples_of (length parts) came) (concat parts) ⊎ HasTwo (length parts) came
     by None is =
         let firsts = picks_are_firsts came parts some picks is in
-        inl (subst (λ o. Contains (samples_by o (find (is_other came) came)) (concat parts)) (sym firsts) (first_sample parts (find (is_other came) came)))
+        inl (subst (λ o. Contains (samples.samples_by o (find (samples.is_other came) came)) (concat parts)) (sym firsts) (first_sample parts (find (samples.is_other came) came)))
     by (Some one) is =
         let first = whole.0 in
         let second = set first (pred one.0) one.1 in
-        let samples : samples_of (length parts) came ≡ samples_by (Some first) (Some one) = ap (λ o. samples_by o (find (is_other came) came)) whole.1 ∙ ap (samples_by (Some first)) is in
+        let samples : samples.samples_of (length parts) came ≡ samples.samples_by (Some first) (Some one) = ap (λ o. samples.samples_by o (find (samples.is_other came) came)) whole.1 ∙ ap (samples.samples_by (Some first)) is in
         inr (
           concat first,
           concat second,
@@ -117,10 +117,10 @@ two came parts some picks within = by (find (is_other came) came) refl
         )
 
 -- where anything is picked, a sample is told
-pub some_sample : (came : List (ℕ × List ℕ)) (parts : List (List ℕ)) → 0 < length parts → ArePicks came parts → (x : List ℕ) × Contains (samples_of (length parts) came) x
+pub some_sample : (came : List (ℕ × List ℕ)) (parts : List (List ℕ)) → 0 < length parts → ArePicks came parts → (x : List ℕ) × Contains (samples.samples_of (length parts) came) x
 some_sample came parts some picks =
     let whole = firsts_exist came parts some picks in
-    (concat whole.0, subst (λ o. Contains (samples_by o (find (is_other came) came)) (concat whole.0)) (sym whole.1) (first_sample whole.0 (find (is_other came) came)))
+    (concat whole.0, subst (λ o. Contains (samples.samples_by o (find (samples.is_other came) came)) (concat whole.0)) (sym whole.1) (first_sample whole.0 (find (samples.is_other came) came)))
 
 -- ---- what is told can be picked
 
@@ -135,22 +135,22 @@ set_get (p ∷ parts) (suc j) (suc i) octets part at = elim (set_get parts j i o
 abbrev pub IsPicked : ℕ → List (ℕ × List ℕ) → List ℕ → Type 0
 IsPicked last came octets = (parts : List (List ℕ)) × (length parts ≡ last) × (0 < length parts) × ArePicks came parts × (octets ≡ concat parts)
 
-firsts_are_picks : (came : List (ℕ × List ℕ)) (last : ℕ) (parts : List (List ℕ)) → firsts_of came last ≡ Some parts → ArePicks came parts
+firsts_are_picks : (came : List (ℕ × List ℕ)) (last : ℕ) (parts : List (List ℕ)) → samples.firsts_of came last ≡ Some parts → ArePicks came parts
 firsts_are_picks came last parts e i octets at = first_is_there came (suc i) octets ((firsts_get came last parts e).2 i octets at)
 
-second_is_picks : (came : List (ℕ × List ℕ)) (last : ℕ) (parts : List (List ℕ)) (one : ℕ × List ℕ) → firsts_of came last ≡ Some parts → Contains came one → 0 < one.0
+second_is_picks : (came : List (ℕ × List ℕ)) (last : ℕ) (parts : List (List ℕ)) (one : ℕ × List ℕ) → samples.firsts_of came last ≡ Some parts → Contains came one → 0 < one.0
     → ArePicks came (set parts (pred one.0) one.1)
 second_is_picks came last parts one h h2 h3 h4 h5 h6 = search (rules, set_get, firsts_are_picks)
 
-pub sample_is_picked : (last : ℕ) (came : List (ℕ × List ℕ)) (octets : List ℕ) → AreWithin last came → Contains (samples_of last came) octets → IsPicked last came octets
-sample_is_picked last came octets within among = by (firsts_of came last) (find (is_other came) came) refl refl among
+pub sample_is_picked : (last : ℕ) (came : List (ℕ × List ℕ)) (octets : List ℕ) → AreWithin last came → Contains (samples.samples_of last came) octets → IsPicked last came octets
+sample_is_picked last came octets within among = by (samples.firsts_of came last) (find (samples.is_other came) came) refl refl among
   where
-    first : (parts : List (List ℕ)) → firsts_of came last ≡ Some parts → concat parts ≡ octets → IsPicked last came octets
+    first : (parts : List (List ℕ)) → samples.firsts_of came last ≡ Some parts → concat parts ≡ octets → IsPicked last came octets
     first parts e is =
         let gets = firsts_get came last parts e in
         (parts, gets.0, (let n = gets.0 in let lt = gets.1 in omega arith), firsts_are_picks came last parts e, sym is)
 
-    second : (parts : List (List ℕ)) (one : ℕ × List ℕ) → firsts_of came last ≡ Some parts → find (is_other came) came ≡ Some one → concat (set parts (pred one.0) one.1) ≡ octets → IsPicked last came octets
+    second : (parts : List (List ℕ)) (one : ℕ × List ℕ) → samples.firsts_of came last ≡ Some parts → find (samples.is_other came) came ≡ Some one → concat (set parts (pred one.0) one.1) ≡ octets → IsPicked last came octets
     second parts one e other is =
         let gets = firsts_get came last parts e in
         let differs = other_differs came one other in
@@ -163,7 +163,7 @@ sample_is_picked last came octets within among = by (firsts_of came last) (find 
           sym is,
         )
 
-    by : (a : Option (List (List ℕ))) (b : Option (ℕ × List ℕ)) → firsts_of came last ≡ a → find (is_other came) came ≡ b → Contains (samples_by a b) octets → IsPicked last came octets
+    by : (a : Option (List (List ℕ))) (b : Option (ℕ × List ℕ)) → samples.firsts_of came last ≡ a → find (samples.is_other came) came ≡ b → Contains (samples.samples_by a b) octets → IsPicked last came octets
     by None b e other there = absurd (contains_none octets there)
     by (Some parts) None e other there = elim (contains_cases (concat parts) [] octets there) [
       | inl is ↦ first parts e is

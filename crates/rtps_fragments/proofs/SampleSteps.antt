@@ -2,42 +2,42 @@
 use Rattle.std.proofs.lemmas.Bool.Decides.{nat_tests}
 use Rattle.std.proofs.Common.{◌≡◌, ℕ, zero, suc, ◌+◌, ◌<◌, List, [], ◌∷◌, ◌++◌, length, map, take, get_or, Some, slice_get, Bor, refl, sym, ◌∙◌, ap, append_assoc, append-nil, arith}
 use Rattle.std.proofs.lemmas.Grind.{flat_map-append, common_steps}
-use Rattle.rtps_fragments.specs.Merging.{sents_from, sents_in}
-use Rattle.rtps_fragments.specs.RecordedSamples.{by_datagram}
-use Rattle.rtps_fragments.specs.SampleActs.{PieceAct}
-use Rattle.rtps_fragments.specs.FragmentWalk.{piece_acts_of, sending_of}
-use Rattle.rtps_fragments.specs.ToldSamples.{SentValue, ToldValue, in_turn}
+use Rattle.rtps_fragments.specs.Merging as merging
+use Rattle.rtps_fragments.specs.RecordedSamples as recorded_samples
+use Rattle.rtps_fragments.specs.SampleActs as sample_acts
+use Rattle.rtps_fragments.specs.FragmentWalk as fragment_walk
+use Rattle.rtps_fragments.specs.ToldSamples as told_samples
 
 -- the octets of datagrams
 abbrev pub octets_of : List (Bor (List ℕ)) → List (List ℕ)
 octets_of xs = map (λ datagram. datagram.now) xs
 
 -- the acts of each datagram so far, with one more
-pub sending_next : (xs : List (Bor (List ℕ))) (i : ℕ) (d : Bor (List ℕ)) → i < length xs → sending_of (octets_of (take (i + 1) xs)) ≡ sending_of (octets_of (take i xs)) ++ piece_acts_of (get_or xs i d).now ∷ []
+pub sending_next : (xs : List (Bor (List ℕ))) (i : ℕ) (d : Bor (List ℕ)) → i < length xs → fragment_walk.sending_of (octets_of (take (i + 1) xs)) ≡ fragment_walk.sending_of (octets_of (take i xs)) ++ fragment_walk.piece_acts_of (get_or xs i d).now ∷ []
 sending_next xs i d lt = grind (arith, nat_tests, common_steps)
 
-pub sents_next : (recording : List (List PieceAct)) (acts : List PieceAct) → sents_in (recording ++ acts ∷ []) ≡ sents_in recording ++ sents_from 0 acts
-sents_next recording acts = flat_map-append (sents_from 0) recording (acts ∷ []) ∙ ap (λ ss. sents_in recording ++ ss) (append-nil (sents_from 0 acts))
+pub sents_next : (recording : List (List sample_acts.PieceAct)) (acts : List sample_acts.PieceAct) → merging.sents_in (recording ++ acts ∷ []) ≡ merging.sents_in recording ++ merging.sents_from 0 acts
+sents_next recording acts = flat_map-append (merging.sents_from 0) recording (acts ∷ []) ∙ ap (λ ss. merging.sents_in recording ++ ss) (append-nil (merging.sents_from 0 acts))
 
 -- what the datagrams tell, with one more
-module _ (tell : List SentValue → SentValue → List ToldValue) where
-  pub next_datagram : (before : List SentValue) (recording : List (List PieceAct)) (acts : List PieceAct)
-      → by_datagram tell before (recording ++ acts ∷ []) ≡ by_datagram tell before recording ++ in_turn tell (before ++ sents_in recording) (sents_from 0 acts) ∷ []
-  next_datagram before [] acts = ap (λ ss. in_turn tell ss (sents_from 0 acts) ∷ []) (sym (append-nil before))
+module _ (tell : List told_samples.SentValue → told_samples.SentValue → List told_samples.ToldValue) where
+  pub next_datagram : (before : List told_samples.SentValue) (recording : List (List sample_acts.PieceAct)) (acts : List sample_acts.PieceAct)
+      → recorded_samples.by_datagram tell before (recording ++ acts ∷ []) ≡ recorded_samples.by_datagram tell before recording ++ told_samples.in_turn tell (before ++ merging.sents_in recording) (merging.sents_from 0 acts) ∷ []
+  next_datagram before [] acts = ap (λ ss. told_samples.in_turn tell ss (merging.sents_from 0 acts) ∷ []) (sym (append-nil before))
   next_datagram before (first ∷ recording) acts =
-      ap (λ ts. in_turn tell before (sents_from 0 first) ∷ ts) (next_datagram (before ++ sents_from 0 first) recording acts)
-      ∙ ap (λ ss. by_datagram tell before (first ∷ recording) ++ in_turn tell ss (sents_from 0 acts) ∷ []) (append_assoc before (sents_from 0 first) (sents_in recording))
+      ap (λ ts. told_samples.in_turn tell before (merging.sents_from 0 first) ∷ ts) (next_datagram (before ++ merging.sents_from 0 first) recording acts)
+      ∙ ap (λ ss. recorded_samples.by_datagram tell before (first ∷ recording) ++ told_samples.in_turn tell ss (merging.sents_from 0 acts) ∷ []) (append_assoc before (merging.sents_from 0 first) (merging.sents_in recording))
 
   -- what one of them tells
-  pub told_there : (before : List SentValue) (recording : List (List PieceAct)) (i : ℕ) (acts : List PieceAct) → slice_get recording i ≡ Some acts
-      → slice_get (by_datagram tell before recording) i ≡ Some (in_turn tell (before ++ sents_in (take i recording)) (sents_from 0 acts))
+  pub told_there : (before : List told_samples.SentValue) (recording : List (List sample_acts.PieceAct)) (i : ℕ) (acts : List sample_acts.PieceAct) → slice_get recording i ≡ Some acts
+      → slice_get (recorded_samples.by_datagram tell before recording) i ≡ Some (told_samples.in_turn tell (before ++ merging.sents_in (take i recording)) (merging.sents_from 0 acts))
   told_there before [] i acts e = cc
   told_there before (first ∷ recording) zero acts e =
       let is : first ≡ acts = (let h = e in cc) in
-      ap Some (ap (λ ss. in_turn tell ss (sents_from 0 first)) (sym (append-nil before)) ∙ ap (λ a. in_turn tell (before ++ []) (sents_from 0 a)) is)
+      ap Some (ap (λ ss. told_samples.in_turn tell ss (merging.sents_from 0 first)) (sym (append-nil before)) ∙ ap (λ a. told_samples.in_turn tell (before ++ []) (merging.sents_from 0 a)) is)
   told_there before (first ∷ recording) (suc i) acts e =
-      told_there (before ++ sents_from 0 first) recording i acts e ∙ ap (λ ss. Some (in_turn tell ss (sents_from 0 acts))) (append_assoc before (sents_from 0 first) (sents_in (take i recording)))
+      told_there (before ++ merging.sents_from 0 first) recording i acts e ∙ ap (λ ss. Some (told_samples.in_turn tell ss (merging.sents_from 0 acts))) (append_assoc before (merging.sents_from 0 first) (merging.sents_in (take i recording)))
 
-  pub length-told : (before : List SentValue) (recording : List (List PieceAct)) → length (by_datagram tell before recording) ≡ length recording
+  pub length-told : (before : List told_samples.SentValue) (recording : List (List sample_acts.PieceAct)) → length (recorded_samples.by_datagram tell before recording) ≡ length recording
   length-told before [] = refl
-  length-told before (acts ∷ recording) = ap suc (length-told (before ++ sents_from 0 acts) recording)
+  length-told before (acts ∷ recording) = ap suc (length-told (before ++ merging.sents_from 0 acts) recording)

@@ -2,32 +2,31 @@
 -- own: all DATA of built-in writers are kept, though some announce nothing. They are few, so what a directory does not keep (policies and
 -- hosts) is read of them without another walk through all acts.
 use Rattle.std.specs.Prelude.{◌≡◌, Bool, false, List, filter, map}
-use Rattle.rtps_receiver.specs.Values.{ActBodyValue, ActValue}
-use Rattle.rtps_receiver.specs.Values.ActBodyValue.{Data, Heartbeat, AckNack, Gap, DataFrag, NackFrag}
-use Rattle.rtps_audit.specs.Index.{IsIndexBy}
-use Rattle.rtps_audit.specs.Intake.{Intake}
-use Rattle.rtps_audit.specs.Placed.{PlacedValue, placed_in, placed_value}
-use Rattle.rtps_fragments.specs.Announcing.{is_built_in}
+use Rattle.rtps_receiver.specs.Values as values
+use Rattle.rtps_audit.specs.Index as index
+use Rattle.rtps_audit.specs.Intake as intake
+use Rattle.rtps_audit.specs.Placed as placed
+use Rattle.rtps_fragments.specs.Announcing as announcing
 use Rattle.rtps_fragments.specs.declared.announcements.Indexed.{Indexed}
 
 -- a DATA of a built-in writer
-abbrev pub is_of_built_in : ActBodyValue → Bool
-is_of_built_in (Data value) = is_built_in value.writer
-is_of_built_in (Heartbeat value) = false
-is_of_built_in (AckNack value) = false
-is_of_built_in (Gap value) = false
-is_of_built_in (DataFrag value) = false
-is_of_built_in (NackFrag value) = false
+abbrev pub is_of_built_in : values.ActBodyValue → Bool
+is_of_built_in (values.ActBodyValue.Data value) = announcing.is_built_in value.writer
+is_of_built_in (values.ActBodyValue.Heartbeat value) = false
+is_of_built_in (values.ActBodyValue.AckNack value) = false
+is_of_built_in (values.ActBodyValue.Gap value) = false
+is_of_built_in (values.ActBodyValue.DataFrag value) = false
+is_of_built_in (values.ActBodyValue.NackFrag value) = false
 
 -- the act is one
-abbrev pub is_announcement : PlacedValue → Bool
+abbrev pub is_announcement : placed.PlacedValue → Bool
 is_announcement placed = is_of_built_in placed.act.body
 
 -- those among the acts of datagrams
-abbrev pub announcements_in : List (List ActValue) → List PlacedValue
-announcements_in datagrams = filter is_announcement (placed_in datagrams)
+abbrev pub announcements_in : List (List values.ActValue) → List placed.PlacedValue
+announcements_in datagrams = filter is_announcement (placed.placed_in datagrams)
 
 -- the index has taken in this, and these are its announcements
-pub record IsIndexedBy (intake : Intake) (indexed : Indexed) : Type 0 where
-  pub index : IsIndexBy intake indexed.index
-  pub announcements : map placed_value indexed.announcements.items ≡ announcements_in intake.announcing
+pub record IsIndexedBy (intake : intake.Intake) (indexed : Indexed) : Type 0 where
+  pub index : index.IsIndexBy intake indexed.index
+  pub announcements : map placed.placed_value indexed.announcements.items ≡ announcements_in intake.announcing

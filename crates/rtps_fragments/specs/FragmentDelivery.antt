@@ -3,16 +3,14 @@
 -- fragments.
 use Rattle.std.specs.Prelude.{ℕ, suc, ◌<◌, ◌≡◌, ◌⊎◌, if◌then◌else◌, List, [], ◌∷◌, ◌++◌, length, map, Some, slice_get, Contains}
 use Rattle.std.specs.List.{concat}
-use Rattle.rtps_wire.specs.Values.{PayloadValue}
-use Rattle.rtps_wire.specs.Values.PayloadValue.{Whole, Key}
-use Rattle.rtps_audit.specs.Delivery.{Word, Datagram, Speech, IsAsked, Gives, Claims}
-use Rattle.rtps_audit.specs.Delivery.Word.{Told, Gone}
-pub use Rattle.rtps_wire.specs.DataFrag.{last_fragment}
-pub use Rattle.rtps_wire.specs.declared.data_frag.Shape.{Shape}
+use Rattle.rtps_wire.specs.Values as values
+use Rattle.rtps_audit.specs.Delivery as delivery
+use Rattle.rtps_wire.specs.DataFrag as data_frag
+use Rattle.rtps_wire.specs.declared.data_frag.Shape.{Shape}
 
 -- the payload of a sample of these octets
-abbrev pub payload_by : Shape → List ℕ → PayloadValue
-payload_by shape octets = if shape.is_key then Key octets else Whole octets
+abbrev pub payload_by : Shape → List ℕ → values.PayloadValue
+payload_by shape octets = if shape.is_key then values.PayloadValue.Key octets else values.PayloadValue.Whole octets
 
 -- one fragment of a sample: the number that the sample has, its shape, the number of the fragment, and the fragment's octets
 pub record Fragment : Type 0 where
@@ -40,7 +38,7 @@ fragments_of piece = fragments_from piece.number piece.shape piece.first piece.p
 -- what one datagram says of the writer and the reader: all that is said without fragments, and the pieces that the reader hears from
 -- the writer
 pub record FragmentDatagram : Type 0 where
-  pub said : Datagram
+  pub said : delivery.Datagram
   pub pieces : List Piece
 
 -- the datagrams of a recording in the order of sending
@@ -48,7 +46,7 @@ abbrev pub FragmentSpeech : Type 0
 FragmentSpeech = List FragmentDatagram
 
 -- what they say without fragments
-abbrev pub said_in : FragmentSpeech → Speech
+abbrev pub said_in : FragmentSpeech → delivery.Speech
 said_in speech = map (λ datagram. datagram.said) speech
 
 -- the piece at place k of the datagram at place i has this fragment, of a number that is asked for
@@ -57,31 +55,31 @@ pub record GivesFragment (from : ℕ) (speech : FragmentSpeech) (i k : ℕ) (fra
   pub piece : Piece
   pub stands : slice_get speech i ≡ Some datagram
   pub speaks : slice_get datagram.pieces k ≡ Some piece
-  pub asked : IsAsked from fragment.number
+  pub asked : delivery.IsAsked from fragment.number
   pub has : Contains (fragments_of piece) fragment
 
 -- Of one shape, each fragment of number n is among those that there are, and the payload is their octets in order. A sample has
 -- one fragment or more.
-pub record IsPutTogether (there : Fragment → Type 0) (n : ℕ) (payload : PayloadValue) : Type 0 where
+pub record IsPutTogether (there : Fragment → Type 0) (n : ℕ) (payload : values.PayloadValue) : Type 0 where
   pub shape : Shape
   pub parts : List (List ℕ)
   pub some : 0 < length parts
-  pub all : length parts ≡ last_fragment shape
+  pub all : length parts ≡ data_frag.last_fragment shape
   pub each : (i : ℕ) (octets : List ℕ) → slice_get parts i ≡ Some octets → there (record { number = n; shape = shape; index = suc i; octets = octets })
   pub payload_is : payload ≡ payload_by shape (concat parts)
 
 -- the payload of n is told by a word that there is, or can be put together of fragments that there are
-abbrev pub HasPayloadOf : (ℕ → Word → Type 0) → (Fragment → Type 0) → ℕ → PayloadValue → Type 0
-HasPayloadOf said there n payload = said n (Told payload) ⊎ IsPutTogether there n payload
+abbrev pub HasPayloadOf : (ℕ → delivery.Word → Type 0) → (Fragment → Type 0) → ℕ → values.PayloadValue → Type 0
+HasPayloadOf said there n payload = said n (delivery.Word.Told payload) ⊎ IsPutTogether there n payload
 
 -- by these words and fragments there is a word for n: that it will not come, or a payload
-abbrev pub HasWordOf : (ℕ → Word → Type 0) → (Fragment → Type 0) → ℕ → Type 0
-HasWordOf said there n = said n Gone ⊎ ((payload : PayloadValue) × HasPayloadOf said there n payload)
+abbrev pub HasWordOf : (ℕ → delivery.Word → Type 0) → (Fragment → Type 0) → ℕ → Type 0
+HasWordOf said there n = said n delivery.Word.Gone ⊎ ((payload : values.PayloadValue) × HasPayloadOf said there n payload)
 
 -- how many datagrams are sent, and the words and the fragments that the reader holds
 pub record FragmentState : Type 0 where
   pub sent : ℕ
-  pub held : List (ℕ × Word)
+  pub held : List (ℕ × delivery.Word)
   pub fragments : List Fragment
 
 -- nothing is sent, and nothing is held
@@ -89,7 +87,7 @@ abbrev pub fragment_start : FragmentState
 fragment_start = record { sent = 0; held = []; fragments = [] }
 
 -- the reader holds the word of the number
-abbrev pub HoldsWord : FragmentState → ℕ → Word → Type 0
+abbrev pub HoldsWord : FragmentState → ℕ → delivery.Word → Type 0
 HoldsWord state n word = Contains state.held (n, word)
 
 -- the reader holds the fragment
@@ -97,7 +95,7 @@ abbrev pub HoldsFragment : FragmentState → Fragment → Type 0
 HoldsFragment state fragment = Contains state.fragments fragment
 
 -- the reader was given the payload of n, or can put it together
-abbrev pub HasPayload : FragmentState → ℕ → PayloadValue → Type 0
+abbrev pub HasPayload : FragmentState → ℕ → values.PayloadValue → Type 0
 HasPayload state n payload = HasPayloadOf (HoldsWord state) (HoldsFragment state) n payload
 
 -- the reader has a word for the number
@@ -108,18 +106,18 @@ HasWord state n = HasWordOf (HoldsWord state) (HoldsFragment state) n
 -- piece, of a datagram that was sent. A loss is what is never taken
 pub data FragmentEvent : Type 0 where
   Send : FragmentEvent
-  Take : (i k n : ℕ) (word : Word) → FragmentEvent
+  Take : (i k n : ℕ) (word : delivery.Word) → FragmentEvent
   TakeFragment : (i k : ℕ) (fragment : Fragment) → FragmentEvent
 
 -- the reader answers only for numbers that it has a word for (8.4.2.3 "Required RTPS Reader Behavior")
 abbrev pub MaySendFragments : ℕ → FragmentSpeech → FragmentState → Type 0
-MaySendFragments from speech state = (state.sent < length speech) × ((n : ℕ) → Claims from (said_in speech) state.sent n → HasWord state n)
+MaySendFragments from speech state = (state.sent < length speech) × ((n : ℕ) → delivery.Claims from (said_in speech) state.sent n → HasWord state n)
 
 -- the event is allowed in the old state, and leaves the new one
 abbrev pub FragmentStep : ℕ → FragmentSpeech → FragmentState → FragmentEvent → FragmentState → Type 0
 FragmentStep from speech old Send new = MaySendFragments from speech old × (new ≡ record { sent = suc old.sent; held = old.held; fragments = old.fragments })
 FragmentStep from speech old (Take i k n word) new =
-    (i < old.sent) × Gives from (said_in speech) i k n word × (new ≡ record { sent = old.sent; held = old.held ++ (n, word) ∷ []; fragments = old.fragments })
+    (i < old.sent) × delivery.Gives from (said_in speech) i k n word × (new ≡ record { sent = old.sent; held = old.held ++ (n, word) ∷ []; fragments = old.fragments })
 FragmentStep from speech old (TakeFragment i k fragment) new =
     (i < old.sent) × GivesFragment from speech i k fragment × (new ≡ record { sent = old.sent; held = old.held; fragments = old.fragments ++ fragment ∷ [] })
 

@@ -5,7 +5,7 @@ use Rattle.std.specs.BTreeMap.{get}
 use Rattle.std.specs.List.{find}
 use Rattle.std.specs.Option.{option_or}
 use Rattle.std.specs.Ordering.{nat_cmp}
-use Rattle.rtps_fragments.specs.Samples.{first_of, is_other}
+use Rattle.rtps_fragments.specs.Samples as samples
 use Rattle.rtps_fragments.specs.declared.heard.Heard.{Heard}
 
 -- the octets that are kept for a fragment
@@ -23,10 +23,10 @@ kept_other kept = if kept.other == 0 then None else Some (kept.other, kept.octet
 
 -- What is kept is what came, of a sample with so many fragments.
 pub record IsHeard (last : ℕ) (came : List (ℕ × List ℕ)) (kept : Heard) : Type 0 where
-  pub firsts : (i : ℕ) → kept_first kept i ≡ first_of came i
+  pub firsts : (i : ℕ) → kept_first kept i ≡ samples.first_of came i
   pub within : kept_front kept ≤ last
-  pub next : kept_front kept < last → first_of came (suc (kept_front kept)) ≡ None
-  pub other : kept_other kept ≡ find (is_other came) came
+  pub next : kept_front kept < last → samples.first_of came (suc (kept_front kept)) ≡ None
+  pub other : kept_other kept ≡ find (samples.is_other came) came
 
 -- consecutive fragments with these octets, from this one on
 abbrev pub came_from : ℕ → List (List ℕ) → List (ℕ × List ℕ)

@@ -5,28 +5,27 @@ use Rattle.std.specs.Prelude.{ℕ, Bool, Contains, false, true, not, ◌&&◌, �
 use Rattle.std.specs.List.{flat_map, list_all, list_any}
 use Rattle.std.specs.Str.{bytes_eq}
 use Rattle.rtps_ids.specs.declared.identity.GuidPrefix.{GuidPrefix}
-use Rattle.rtps_receiver.specs.Speech.{is_entity, is_for_all, is_prefix, unknown_entity}
+use Rattle.rtps_receiver.specs.Speech as speech
 use Rattle.rtps_receiver.specs.declared.speech.Audience.{Audience}
-use Rattle.rtps_fragments.specs.Samples.{first_of, samples_of}
+use Rattle.rtps_fragments.specs.Samples as samples
 use Rattle.rtps_fragments.specs.declared.listeners.Name.{Name}
-use Rattle.rtps_fragments.specs.declared.listeners.Name.TheVariants.{Dest, Reader}
 
 -- ---- audiences
 
 -- two destinations are the same
 abbrev pub is_same_dest : Option GuidPrefix → Option GuidPrefix → Bool
-is_same_dest (Some one) (Some other) = is_prefix one other
+is_same_dest (Some one) (Some other) = speech.is_prefix one other
 is_same_dest (Some one) None = false
 is_same_dest None (Some other) = false
 is_same_dest None None = true
 
 -- every reader of everyone
 abbrev pub everyone : Audience
-everyone = record { dest = None; reader = unknown_entity }
+everyone = record { dest = None; reader = speech.unknown_entity }
 
 -- all of the other audience hear what is for this one: it is as wide, or wider
 abbrev pub is_for_audience : Audience → Audience → Bool
-is_for_audience one other = (is_for_all one.dest || is_same_dest one.dest other.dest) && (is_entity one.reader unknown_entity || is_entity one.reader other.reader)
+is_for_audience one other = (speech.is_for_all one.dest || is_same_dest one.dest other.dest) && (speech.is_entity one.reader speech.unknown_entity || speech.is_entity one.reader other.reader)
 
 -- it is wider
 abbrev pub is_wider : Audience → Audience → Bool
@@ -34,18 +33,18 @@ is_wider one other = is_for_audience one other && not (is_for_audience other one
 
 -- the audience has this destination, or this reader
 abbrev pub has_name : Name → Audience → Bool
-has_name (Dest dest) audience = is_same_dest audience.dest dest
-has_name (Reader reader) audience = is_entity audience.reader reader
+has_name (Name.Dest dest) audience = is_same_dest audience.dest dest
+has_name (Name.Reader reader) audience = speech.is_entity audience.reader reader
 
 -- it names no destination, or no reader
 abbrev pub has_no_name : Name → Audience → Bool
-has_no_name (Dest dest) audience = is_for_all audience.dest
-has_no_name (Reader reader) audience = is_entity audience.reader unknown_entity
+has_no_name (Name.Dest dest) audience = speech.is_for_all audience.dest
+has_no_name (Name.Reader reader) audience = speech.is_entity audience.reader speech.unknown_entity
 
 -- those of it that have the name
 abbrev pub named_so : Name → Audience → Audience
-named_so (Dest dest) audience = record { dest = dest; reader = audience.reader }
-named_so (Reader reader) audience = record { dest = audience.dest; reader = reader }
+named_so (Name.Dest dest) audience = record { dest = dest; reader = audience.reader }
+named_so (Name.Reader reader) audience = record { dest = audience.dest; reader = reader }
 
 -- audiences with those that have this name; for each that names none there is one
 abbrev pub with_name : List Audience → Name → List Audience
@@ -90,7 +89,7 @@ is_octets (Some first) octets = bytes_eq first octets
 
 -- they came first for the fragment
 abbrev pub came_first : List (ℕ × List ℕ) → ℕ × List ℕ → Bool
-came_first came one = is_octets (first_of came one.0) one.1
+came_first came one = is_octets (samples.first_of came one.0) one.1
 
 -- all to whom these are sent have each of them: an audience as wide or wider heard it with these octets first
 abbrev pub is_known : AudienceNews → Offer → Bool
@@ -100,7 +99,7 @@ is_known hearing offer =
 -- These are sent. What is known is no news. Each destination and each reader that was named, together, is an audience, since a reader
 -- hears what is for its participant and what is for itself.
 abbrev pub hears : AudienceNews → Offer → AudienceNews
-hears hearing offer = if is_known hearing offer then hearing else with_news (begins (begins hearing (Dest offer.audience.dest)) (Reader offer.audience.reader)) offer
+hears hearing offer = if is_known hearing offer then hearing else with_news (begins (begins hearing (Name.Dest offer.audience.dest)) (Name.Reader offer.audience.reader)) offer
 
 -- these are, one after another
 abbrev pub hears_all : AudienceNews → List Offer → AudienceNews
@@ -115,7 +114,7 @@ hearing_of offers = hears_all silence offers
 
 -- the samples of so many fragments that an audience can put together
 abbrev pub samples_for : ℕ → AudienceNews → Audience → List (List ℕ)
-samples_for last hearing audience = samples_of last (came_to audience hearing.news)
+samples_for last hearing audience = samples.samples_of last (came_to audience hearing.news)
 
 -- a wider audience has the sample
 abbrev pub is_had : ℕ → AudienceNews → Audience → List ℕ → Bool

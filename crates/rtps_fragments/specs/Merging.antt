@@ -2,68 +2,66 @@
 -- "DataFrag". own: a sample stands behind the act that completes it.
 use Rattle.std.specs.Prelude.{ℕ, suc, ◌==◌, ◌≡◌, if◌then◌else◌, List, [], ◌∷◌, ◌++◌, map, Option, Some, None}
 use Rattle.std.specs.List.{flat_map}
-use Rattle.rtps_receiver.specs.Speech.{origin_of}
-use Rattle.rtps_receiver.specs.Values.{ActBodyValue, ActValue, FragmentValue}
-use Rattle.rtps_receiver.specs.Values.ActBodyValue.{Data, Heartbeat, AckNack, Gap, DataFrag, NackFrag}
-use Rattle.rtps_fragments.specs.Heard.{came_from}
-use Rattle.rtps_fragments.specs.FragmentDelivery.{Piece}
-use Rattle.rtps_fragments.specs.SampleActs.{PieceAct, sample_act, sent_to_whom}
-use Rattle.rtps_fragments.specs.SamplesSent.{noted_act}
-use Rattle.rtps_fragments.specs.ToldSamples.{SentValue, ToldValue}
+use Rattle.rtps_receiver.specs.Speech as speech
+use Rattle.rtps_receiver.specs.Values as values
+use Rattle.rtps_fragments.specs.Heard as heard
+use Rattle.rtps_fragments.specs.FragmentDelivery as fragment_delivery
+use Rattle.rtps_fragments.specs.SampleActs as sample_acts
+use Rattle.rtps_fragments.specs.SamplesSent as samples_sent
+use Rattle.rtps_fragments.specs.ToldSamples as told_samples
 use Rattle.rtps_fragments.specs.declared.merging.SampleForm.{SampleForm}
-use Rattle.rtps_fragments.specs.declared.merging.SampleForm.TheVariants.{ForAudience, ForEveryone}
 use Rattle.rtps_fragments.specs.declared.piece.SampleKey.{SampleKey}
 
 -- the sample of which an act has a piece
-abbrev pub key_of : ActValue → Piece → SampleKey
+abbrev pub key_of : values.ActValue → fragment_delivery.Piece → SampleKey
 key_of act piece =
-    record { writer = origin_of act; number = piece.number; sample = piece.shape.sample; fragment = piece.shape.fragment; is_key = piece.shape.is_key }
+    record { writer = speech.origin_of act; number = piece.number; sample = piece.shape.sample; fragment = piece.shape.fragment; is_key = piece.shape.is_key }
 
 -- what an act at this place sends, where it has a piece
-abbrev pub sent_in : ℕ → ActValue → Option Piece → List SentValue
-sent_in i act (Some piece) = record { act = i; key = key_of act piece; audience = sent_to_whom act; came = came_from piece.first piece.parts } ∷ []
+abbrev pub sent_in : ℕ → values.ActValue → Option fragment_delivery.Piece → List told_samples.SentValue
+sent_in i act (Some piece) = record { act = i; key = key_of act piece; audience = sample_acts.sent_to_whom act; came = heard.came_from piece.first piece.parts } ∷ []
 sent_in i act None = []
 
 -- what acts send, the first of which is at this place
-abbrev pub sents_from : ℕ → List PieceAct → List SentValue
+abbrev pub sents_from : ℕ → List sample_acts.PieceAct → List told_samples.SentValue
 sents_from i [] = []
 sents_from i (one ∷ acts) = sent_in i one.act one.piece ++ sents_from (suc i) acts
 
 -- what the acts of all datagrams send
-abbrev pub sents_in : List (List PieceAct) → List SentValue
+abbrev pub sents_in : List (List sample_acts.PieceAct) → List told_samples.SentValue
 sents_in recording = flat_map (sents_from 0) recording
 
 -- a sample that an act of this number tells, as an act: for its audience, or for everyone
-abbrev pub act_as : SampleForm → ActValue → ℕ → ToldValue → ActValue
-act_as ForAudience act n one = sample_act act n one.audience one.payload
-act_as ForEveryone act n one = noted_act act n one.payload
+abbrev pub act_as : SampleForm → values.ActValue → ℕ → told_samples.ToldValue → values.ActValue
+act_as SampleForm.ForAudience act n one = sample_acts.sample_act act n one.audience one.payload
+act_as SampleForm.ForEveryone act n one = samples_sent.noted_act act n one.payload
 
 -- the samples that an act with this body tells, as acts
-abbrev pub acts_told : SampleForm → ActValue → ActBodyValue → List ToldValue → List ActValue
-acts_told form act (DataFrag value) told = map (act_as form act value.number) told
-acts_told form act (Data value) told = []
-acts_told form act (Heartbeat value) told = []
-acts_told form act (AckNack value) told = []
-acts_told form act (NackFrag value) told = []
-acts_told form act (Gap value) told = []
+abbrev pub acts_told : SampleForm → values.ActValue → values.ActBodyValue → List told_samples.ToldValue → List values.ActValue
+acts_told form act (values.ActBodyValue.DataFrag value) told = map (act_as form act value.number) told
+acts_told form act (values.ActBodyValue.Data value) told = []
+acts_told form act (values.ActBodyValue.Heartbeat value) told = []
+acts_told form act (values.ActBodyValue.AckNack value) told = []
+acts_told form act (values.ActBodyValue.NackFrag value) told = []
+acts_told form act (values.ActBodyValue.Gap value) told = []
 
 -- the first of these that the act at this place tells
-abbrev pub run_of : ℕ → List ToldValue → List ToldValue
+abbrev pub run_of : ℕ → List told_samples.ToldValue → List told_samples.ToldValue
 run_of i [] = []
 run_of i (one ∷ told) = if one.act == i then one ∷ run_of i told else []
 
 -- those behind them
-abbrev pub run_past : ℕ → List ToldValue → List ToldValue
+abbrev pub run_past : ℕ → List told_samples.ToldValue → List told_samples.ToldValue
 run_past i [] = []
 run_past i (one ∷ told) = if one.act == i then run_past i told else one ∷ told
 
 -- acts, the first of which is at this place, and behind each the samples that it tells
-abbrev pub merged_from : SampleForm → ℕ → List ActValue → List ToldValue → List ActValue
+abbrev pub merged_from : SampleForm → ℕ → List values.ActValue → List told_samples.ToldValue → List values.ActValue
 merged_from form i [] told = []
 merged_from form i (act ∷ acts) told = act ∷ (acts_told form act act.body (run_of i told) ++ merged_from form (suc i) acts (run_past i told))
 
 -- An act with a piece is a DATA_FRAG of the piece's number.
-pub record IsFragmentAct (one : PieceAct) (piece : Piece) : Type 0 where
-  pub value : FragmentValue
-  pub body : one.act.body ≡ DataFrag value
+pub record IsFragmentAct (one : sample_acts.PieceAct) (piece : fragment_delivery.Piece) : Type 0 where
+  pub value : values.FragmentValue
+  pub body : one.act.body ≡ values.ActBodyValue.DataFrag value
   pub number : value.number ≡ piece.number

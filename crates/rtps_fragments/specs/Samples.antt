@@ -4,10 +4,11 @@
 use Rattle.std.specs.Prelude.{ℕ, zero, suc, pred, Bool, false, not, nat_lt, ◌==◌, ◌&&◌, if◌then◌else◌, List, [], ◌∷◌, ◌++◌, length, map, drop, slice_set, Option, Some, None}
 use Rattle.std.specs.List.{concat, filter_map, find, flat_map}
 use Rattle.std.specs.Str.{bytes_eq}
-use Rattle.rtps_wire.specs.Values.{PayloadValue}
-use Rattle.rtps_audit.specs.Delivery.{Word, Datagram, Speech}
-use Rattle.rtps_audit.specs.Delivery.Word.{Told}
-use Rattle.rtps_fragments.specs.FragmentDelivery.{Shape, last_fragment, payload_by, Fragment, Piece, fragments_of, FragmentDatagram, FragmentSpeech}
+use Rattle.rtps_wire.specs.Values as values
+use Rattle.rtps_audit.specs.Delivery as delivery
+use Rattle.rtps_wire.specs.declared.data_frag.Shape.{Shape}
+use Rattle.rtps_wire.specs.DataFrag as data_frag
+use Rattle.rtps_fragments.specs.FragmentDelivery as fragment_delivery
 
 -- ---- the payloads of one sample. What came of it is a list: for each fragment that came, in order, its number and its octets
 
@@ -67,35 +68,35 @@ abbrev pub is_of : ℕ → Shape → ℕ → Shape → Bool
 is_of n shape number other = (number == n) && is_shape other shape
 
 -- a fragment as part of the sample of number n in a shape, if it is of it
-abbrev pub came_of : ℕ → Shape → Fragment → Option (ℕ × List ℕ)
+abbrev pub came_of : ℕ → Shape → fragment_delivery.Fragment → Option (ℕ × List ℕ)
 came_of n shape fragment = if is_of n shape fragment.number fragment.shape then Some (fragment.index, fragment.octets) else None
 
 -- the payloads of n that fragments of this shape are put together to
-abbrev pub payloads_of : ℕ → Shape → List Fragment → List PayloadValue
-payloads_of n shape fragments = map (payload_by shape) (samples_of (last_fragment shape) (filter_map (came_of n shape) fragments))
+abbrev pub payloads_of : ℕ → Shape → List fragment_delivery.Fragment → List values.PayloadValue
+payloads_of n shape fragments = map (fragment_delivery.payload_by shape) (samples_of (data_frag.last_fragment shape) (filter_map (came_of n shape) fragments))
 
 -- the payloads that a piece tells: those that could not be put together of the fragments before it
-abbrev pub told_by : List Fragment → Piece → List PayloadValue
-told_by before piece = drop (length (payloads_of piece.number piece.shape before)) (payloads_of piece.number piece.shape (before ++ fragments_of piece))
+abbrev pub told_by : List fragment_delivery.Fragment → fragment_delivery.Piece → List values.PayloadValue
+told_by before piece = drop (length (payloads_of piece.number piece.shape before)) (payloads_of piece.number piece.shape (before ++ fragment_delivery.fragments_of piece))
 
 -- the payload as the word of one number, and of no other
-abbrev pub tell : ℕ → PayloadValue → ℕ → Option Word
-tell number payload n = if number == n then Some (Told payload) else None
+abbrev pub tell : ℕ → values.PayloadValue → ℕ → Option delivery.Word
+tell number payload n = if number == n then Some (delivery.Word.Told payload) else None
 
 -- what each of these pieces tells
-abbrev pub acts_told : List Fragment → List Piece → List (ℕ → Option Word)
+abbrev pub acts_told : List fragment_delivery.Fragment → List fragment_delivery.Piece → List (ℕ → Option delivery.Word)
 acts_told before [] = []
-acts_told before (piece ∷ pieces) = map (tell piece.number) (told_by before piece) ++ acts_told (before ++ fragments_of piece) pieces
+acts_told before (piece ∷ pieces) = map (tell piece.number) (told_by before piece) ++ acts_told (before ++ fragment_delivery.fragments_of piece) pieces
 
 -- all that a datagram says, with the samples that its pieces tell as further words
-abbrev pub datagram_told : List Fragment → FragmentDatagram → Datagram
+abbrev pub datagram_told : List fragment_delivery.Fragment → fragment_delivery.FragmentDatagram → delivery.Datagram
 datagram_told before datagram = record { acts = datagram.said.acts ++ acts_told before datagram.pieces; bases = datagram.said.bases; announced = datagram.said.announced }
 
 -- of each datagram, where these fragments were heard before
-abbrev pub speech_told : List Fragment → FragmentSpeech → Speech
+abbrev pub speech_told : List fragment_delivery.Fragment → fragment_delivery.FragmentSpeech → delivery.Speech
 speech_told before [] = []
-speech_told before (datagram ∷ speech) = datagram_told before datagram ∷ speech_told (before ++ flat_map fragments_of datagram.pieces) speech
+speech_told before (datagram ∷ speech) = datagram_told before datagram ∷ speech_told (before ++ flat_map fragment_delivery.fragments_of datagram.pieces) speech
 
 -- the recording into which the samples are told
-abbrev pub told_in : FragmentSpeech → Speech
+abbrev pub told_in : fragment_delivery.FragmentSpeech → delivery.Speech
 told_in speech = speech_told [] speech

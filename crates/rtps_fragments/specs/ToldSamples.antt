@@ -4,16 +4,16 @@ use Rattle.std.specs.Prelude.{ℕ, Bool, ◌<◌, if◌then◌else◌, List, [],
 use Rattle.std.specs.List.{flat_map}
 use Rattle.std.specs.Ordering.{bool_cmp, is_eq, nat_cmp, ordering_then}
 use Rattle.std.specs.declared.cmp.Ordering.{Ordering}
-use Rattle.rtps_discovery.specs.GuidOrder.{guid_cmp}
+use Rattle.rtps_discovery.specs.GuidOrder as guid_order
 use Rattle.rtps_receiver.specs.declared.speech.Audience.{Audience}
-use Rattle.rtps_wire.specs.DataFrag.{parts_in}
-use Rattle.rtps_wire.specs.Values.{PayloadValue}
-use Rattle.rtps_wire.specs.Values.PayloadValue.{Whole, Key}
-use Rattle.rtps_fragments.specs.Announcing.{is_built_in}
-use Rattle.rtps_fragments.specs.Heard.{came_from}
-use Rattle.rtps_fragments.specs.FragmentDelivery.{Shape, last_fragment, payload_by}
-use Rattle.rtps_fragments.specs.Listeners.{Offer, everyone, hearing_of, tells}
-use Rattle.rtps_fragments.specs.Samples.{samples_of}
+use Rattle.rtps_wire.specs.DataFrag as data_frag
+use Rattle.rtps_wire.specs.Values as values
+use Rattle.rtps_fragments.specs.Announcing as announcing
+use Rattle.rtps_fragments.specs.Heard as heard
+use Rattle.rtps_wire.specs.declared.data_frag.Shape.{Shape}
+use Rattle.rtps_fragments.specs.FragmentDelivery as fragment_delivery
+use Rattle.rtps_fragments.specs.Listeners as listeners
+use Rattle.rtps_fragments.specs.Samples as samples
 use Rattle.rtps_fragments.specs.declared.piece.SampleKey.{SampleKey}
 use Rattle.rtps_fragments.specs.declared.piece.SentFragments.{SentFragments}
 use Rattle.rtps_fragments.specs.declared.told_sample.ToldSample.{ToldSample}
@@ -24,7 +24,7 @@ use Rattle.rtps_fragments.specs.declared.told_sample.ToldSample.{ToldSample}
 abbrev pub sample_cmp : SampleKey → SampleKey → Ordering
 sample_cmp a b =
     ordering_then (nat_cmp a.number b.number)
-    (ordering_then (guid_cmp a.writer b.writer) (ordering_then (nat_cmp a.sample b.sample) (ordering_then (nat_cmp a.fragment b.fragment) (bool_cmp a.is_key b.is_key))))
+    (ordering_then (guid_order.guid_cmp a.writer b.writer) (ordering_then (nat_cmp a.sample b.sample) (ordering_then (nat_cmp a.fragment b.fragment) (bool_cmp a.is_key b.is_key))))
 
 -- two samples are the same
 abbrev pub is_sample : SampleKey → SampleKey → Bool
@@ -50,12 +50,12 @@ sent_value sent =
       act = sent.act;
       key = sent.key;
       audience = sent.audience;
-      came = came_from sent.fragments.first (parts_in sent.key.fragment sent.fragments.count sent.fragments.octets.now);
+      came = heard.came_from sent.fragments.first (data_frag.parts_in sent.key.fragment sent.fragments.count sent.fragments.octets.now);
     }
 
 -- The sample has a fragment, fragments have octets, and fragments count from 1.
 pub record IsSent (sent : SentFragments) : Type 0 where
-  pub some : 0 < last_fragment (shape_of sent.key)
+  pub some : 0 < data_frag.last_fragment (shape_of sent.key)
   pub size : 0 < sent.key.fragment
   pub first : 0 < sent.fragments.first
 
@@ -64,11 +64,11 @@ abbrev pub sent_of : SampleKey → List SentValue → List SentValue
 sent_of key all = filter (λ sent. is_sample key sent.key) all
 
 -- what is sent of its sample
-abbrev pub offer_of : SentValue → Offer
+abbrev pub offer_of : SentValue → listeners.Offer
 offer_of sent = record { audience = sent.audience; came = sent.came }
 
 -- what is sent of a sample
-abbrev pub offers : SampleKey → List SentValue → List Offer
+abbrev pub offers : SampleKey → List SentValue → List listeners.Offer
 offers key sents = map offer_of (sent_of key sents)
 
 -- the fragments of a sample, whoever hears them
@@ -81,43 +81,43 @@ overheard key sents = flat_map (λ sent. sent.came) (sent_of key sents)
 pub record ToldValue : Type 0 where
   pub act : ℕ
   pub audience : Audience
-  pub payload : PayloadValue
+  pub payload : values.PayloadValue
 
 -- a sample that is told, as a value
 abbrev pub told_value : ToldSample → ToldValue
-told_value told = record { act = told.act; audience = told.audience; payload = if told.is_key then Key told.octets.items else Whole told.octets.items }
+told_value told = record { act = told.act; audience = told.audience; payload = if told.is_key then values.PayloadValue.Key told.octets.items else values.PayloadValue.Whole told.octets.items }
 
 -- samples of this shape with these octets that the act at this place tells an audience
 abbrev pub told_as : ℕ → Audience → Shape → List (List ℕ) → List ToldValue
-told_as act audience shape samples = map (λ octets. record { act = act; audience = audience; payload = payload_by shape octets }) samples
+told_as act audience shape samples = map (λ octets. record { act = act; audience = audience; payload = fragment_delivery.payload_by shape octets }) samples
 
 -- the samples of so many fragments that more of them tell: those that could not be put together before
 abbrev pub samples_more : ℕ → List (ℕ × List ℕ) → List (ℕ × List ℕ) → List (List ℕ)
-samples_more last before more = drop (length (samples_of last before)) (samples_of last (before ++ more))
+samples_more last before more = drop (length (samples.samples_of last before)) (samples.samples_of last (before ++ more))
 
 -- to an audience, by these fragments, behind what came to it before
 abbrev pub told_by_sent : SentValue → Audience → List (ℕ × List ℕ) → List ToldValue
-told_by_sent sent audience before = told_as sent.act audience (shape_of sent.key) (samples_more (last_fragment (shape_of sent.key)) before sent.came)
+told_by_sent sent audience before = told_as sent.act audience (shape_of sent.key) (samples_more (data_frag.last_fragment (shape_of sent.key)) before sent.came)
 
 -- samples of this shape that the act at this place tells, each to an audience
 abbrev pub told_each : ℕ → Shape → List (Audience × List ℕ) → List ToldValue
-told_each act shape samples = map (λ one. record { act = act; audience = one.0; payload = payload_by shape one.1 }) samples
+told_each act shape samples = map (λ one. record { act = act; audience = one.0; payload = fragment_delivery.payload_by shape one.1 }) samples
 
 -- to the listeners of their sample, by these fragments, behind what was sent of it before
-abbrev pub told_by_offers : List Offer → SentValue → List ToldValue
-told_by_offers before sent = told_each sent.act (shape_of sent.key) (tells (last_fragment (shape_of sent.key)) (hearing_of before) (offer_of sent))
+abbrev pub told_by_offers : List listeners.Offer → SentValue → List ToldValue
+told_by_offers before sent = told_each sent.act (shape_of sent.key) (listeners.tells (data_frag.last_fragment (shape_of sent.key)) (listeners.hearing_of before) (offer_of sent))
 
 -- behind all that was sent before
 abbrev pub told_behind : List SentValue → SentValue → List ToldValue
 told_behind before sent = told_by_offers (offers sent.key before) sent
 
 -- to a listener that hears everything, of a built-in writer, behind what was sent of the sample before
-abbrev pub overheard_by_offers : List Offer → SentValue → List ToldValue
-overheard_by_offers before sent = if is_built_in sent.key.writer.entity then told_by_sent sent everyone (flat_map (λ offer. offer.came) before) else []
+abbrev pub overheard_by_offers : List listeners.Offer → SentValue → List ToldValue
+overheard_by_offers before sent = if announcing.is_built_in sent.key.writer.entity then told_by_sent sent listeners.everyone (flat_map (λ offer. offer.came) before) else []
 
 -- behind all that was sent before
 abbrev pub overheard_behind : List SentValue → SentValue → List ToldValue
-overheard_behind before sent = if is_built_in sent.key.writer.entity then told_by_sent sent everyone (overheard sent.key before) else []
+overheard_behind before sent = if announcing.is_built_in sent.key.writer.entity then told_by_sent sent listeners.everyone (overheard sent.key before) else []
 
 -- what these tell, one after another, each behind those before it
 abbrev pub in_turn : (List SentValue → SentValue → List ToldValue) → List SentValue → List SentValue → List ToldValue

@@ -1,11 +1,10 @@
 ghost use Rattle.std.specs.Prelude.{◌≡◌, ◌+◌, ◌<◌, ◌^◌, ◌++◌, ◌∷◌, [], filter, length, List, map, OnOk};
-ghost use Rattle.rtps_receiver.specs.Values.{spoken_body_value, spoken_value};
-ghost use Rattle.rtps_audit.specs.Intake.{Intake, intake_more, no_intake};
-ghost use Rattle.rtps_audit.specs.Placed.{placed_at, placed_value};
+ghost use Rattle.rtps_receiver.specs.Values as values;
+ghost use Rattle.rtps_audit.specs.Intake as intake_spec;
+ghost use Rattle.rtps_audit.specs.Placed as placed;
 ghost use Rattle.rtps_fragments.specs.Announcing as announcing_spec;
-ghost use Rattle.rtps_fragments.specs.Announcements.{IsIndexedBy, is_announcement};
 ghost use Rattle.rtps_fragments.specs.Announcements as announcements_spec;
-ghost use Rattle.rtps_fragments.specs.ReadDatagrams.{ReadDatagramValue, datagram_read};
+ghost use Rattle.rtps_fragments.specs.ReadDatagrams as read_datagrams;
 
 use crate::listen::{Listen, ReadDatagram};
 use rtps_audit::{Index, Placed, place};
@@ -48,7 +47,7 @@ pub(crate) fn is_built_in(entity: EntityId) -> bool
 
 /// Whether an act is a DATA of a built-in writer: no other announces something.
 fn is_of_built_in(body: &SpokenBody<'_>) -> bool
-    ensures { result ≡ announcements_spec.is_of_built_in (spoken_body_value body.now) }
+    ensures { result ≡ announcements_spec.is_of_built_in (values.spoken_body_value body.now) }
 {
     match body {
         SpokenBody::Act(ActBody::Data(data)) => is_built_in(data.writer),
@@ -66,8 +65,8 @@ fn push_announcements<'s>(
     datagram: usize,
     acts: &[Spoken<'s>],
 ) -> Result<(), Memory>
-    ensures { OnOk result (map placed_value found.new.items
-        ≡ map placed_value found.old.items ++ filter is_announcement (placed_at datagram (map spoken_value acts.now))) }
+    ensures { OnOk result (map placed.placed_value found.new.items
+        ≡ map placed.placed_value found.old.items ++ filter announcements_spec.is_announcement (placed.placed_at datagram (map values.spoken_value acts.now))) }
 {
     for act in acts {
         if is_of_built_in(&act.body) {
@@ -80,7 +79,7 @@ fn push_announcements<'s>(
 impl<'s> Indexed<'s> {
     /// That of no datagrams. It takes no memory.
     pub(crate) fn new(alloc: Global) -> Indexed<'s>
-        ensures { IsIndexedBy no_intake result }
+        ensures { announcements_spec.IsIndexedBy intake_spec.no_intake result }
     {
         Indexed {
             index: Index::new(alloc),
@@ -97,11 +96,11 @@ impl<'s> Indexed<'s> {
         listener: &mut L,
     ) -> Result<(), Memory>
         requires few { self.old.index.tallies.datagrams + 1 < 2 ^ 64 }
-        requires next { (start : L) × (before : List ReadDatagramValue) × L.has_heard start before listener.old × (length before + 1 ≡ noted.now.datagram) }
-        ensures heard { OnOk result ((start : L) (before : List ReadDatagramValue) → L.has_heard start before listener.old
-            → L.has_heard start (before ++ datagram_read noted.now.datagram (map spoken_value noted.now.own.now) (map spoken_value noted.now.announcing.now) ∷ []) listener.new) }
-        ensures index { OnOk result ((intake : Intake) → noted.now.datagram ≡ length intake.announcing + 1 → IsIndexedBy intake self.old
-            → IsIndexedBy (intake_more intake tally (map spoken_value noted.now.acts.now) (map spoken_value noted.now.announcing.now)) self.new) }
+        requires next { (start : L) × (before : List read_datagrams.ReadDatagramValue) × L.has_heard start before listener.old × (length before + 1 ≡ noted.now.datagram) }
+        ensures heard { OnOk result ((start : L) (before : List read_datagrams.ReadDatagramValue) → L.has_heard start before listener.old
+            → L.has_heard start (before ++ read_datagrams.datagram_read noted.now.datagram (map values.spoken_value noted.now.own.now) (map values.spoken_value noted.now.announcing.now) ∷ []) listener.new) }
+        ensures index { OnOk result ((intake : intake_spec.Intake) → noted.now.datagram ≡ length intake.announcing + 1 → announcements_spec.IsIndexedBy intake self.old
+            → announcements_spec.IsIndexedBy (intake_spec.intake_more intake tally (map values.spoken_value noted.now.acts.now) (map values.spoken_value noted.now.announcing.now)) self.new) }
     {
         let first = self.announcements.len();
         self.index.note(tally, noted.acts, noted.announcing)?;

@@ -1,14 +1,13 @@
 ghost use Rattle.std.specs.Prelude.{◌≡◌, ◌<◌, ◌+◌, ◌^◌, ◌∷◌, [], length, None, OnOk, Some};
-ghost use Rattle.rtps_receiver.specs.Acts.{act_at, act_body, state_behind};
-ghost use Rattle.rtps_receiver.specs.Values.{spoken_value};
-ghost use Rattle.rtps_receiver.specs.Values.ActBodyValue.{DataFrag as DataFragAct, NackFrag as NackFragAct};
-ghost use Rattle.rtps_wire.specs.DataFrag.{IsDataFrag, data_frag_value, parts_of};
-ghost use Rattle.rtps_wire.specs.Reading.{items_among, outcomes_left, reading_of};
-ghost use Rattle.rtps_wire.specs.Tally.{tally_of, tally_of_outcomes};
-ghost use Rattle.rtps_wire.specs.Values.{item_value};
-ghost use Rattle.rtps_fragments.specs.Heard.{came_from};
-ghost use Rattle.rtps_fragments.specs.FragmentWalk.{AddsActs, CountsItem, IsFragmentWalk, fragment_of, no_tally, one_unusable, piece_acts_behind, piece_acts_of, piece_acts_of_item, skipped_acts, unusable_among, unusable_in};
-ghost use Rattle.rtps_fragments.specs.ToldSamples.{IsSent, sent_value};
+ghost use Rattle.rtps_receiver.specs.Acts as acts_spec;
+ghost use Rattle.rtps_receiver.specs.Values as receiver_values;
+ghost use Rattle.rtps_wire.specs.DataFrag as data_frag;
+ghost use Rattle.rtps_wire.specs.Reading as reading;
+ghost use Rattle.rtps_wire.specs.Tally as tally;
+ghost use Rattle.rtps_wire.specs.Values as wire_values;
+ghost use Rattle.rtps_fragments.specs.Heard as heard;
+ghost use Rattle.rtps_fragments.specs.FragmentWalk as fragment_walk;
+ghost use Rattle.rtps_fragments.specs.ToldSamples as told_samples;
 
 use crate::piece::{FragmentRun, SampleKey, SentFragments};
 use rtps_ids::{Guid, Memory};
@@ -38,9 +37,9 @@ const NO_TALLY: Tally = Tally {
 
 /// The fragments of a DATA_FRAG, which is the act at this place, in this state.
 fn sent_of<'a>(act: usize, state: &State, fragments: &DataFrag<'a>) -> SentFragments<'a>
-    requires { IsDataFrag (data_frag_value fragments.now) }
-    ensures well { IsSent result }
-    ensures value { sent_value result ≡ record {
+    requires { data_frag.IsDataFrag (data_frag.data_frag_value fragments.now) }
+    ensures well { told_samples.IsSent result }
+    ensures value { told_samples.sent_value result ≡ record {
       act = act;
       key = record {
         writer = record { prefix = state.now.source.prefix; entity = fragments.now.writer };
@@ -50,7 +49,7 @@ fn sent_of<'a>(act: usize, state: &State, fragments: &DataFrag<'a>) -> SentFragm
         is_key = fragments.now.shape.is_key;
       };
       audience = record { dest = state.now.dest; reader = fragments.now.reader };
-      came = came_from fragments.now.first (parts_of (data_frag_value fragments.now));
+      came = heard.came_from fragments.now.first (data_frag.parts_of (data_frag.data_frag_value fragments.now));
     } }
 {
     SentFragments {
@@ -79,8 +78,8 @@ fn sent_of<'a>(act: usize, state: &State, fragments: &DataFrag<'a>) -> SentFragm
 
 /// The act that a DATA_FRAG is, which stands there, in this state.
 fn act_of<'a>(state: &State, item: &Item<'_>, fragments: &DataFrag<'a>) -> Spoken<'a>
-    ensures { spoken_value result ≡ act_at state.now (item_value item.now).at (item_value item.now).order
-        (DataFragAct (fragment_of (data_frag_value fragments.now))) }
+    ensures { receiver_values.spoken_value result ≡ acts_spec.act_at state.now (wire_values.item_value item.now).at (wire_values.item_value item.now).order
+        (receiver_values.ActBodyValue.DataFrag (fragment_walk.fragment_of (data_frag.data_frag_value fragments.now))) }
 {
     Spoken {
         at: item.at,
@@ -106,7 +105,7 @@ fn act_of<'a>(state: &State, item: &Item<'_>, fragments: &DataFrag<'a>) -> Spoke
 
 /// The act that a NACK_FRAG is, which stands there, in this state.
 fn asks_act<'a>(state: &State, item: &Item<'_>, asks: NackFrag) -> Spoken<'a>
-    ensures { spoken_value result ≡ act_at state.now (item_value item.now).at (item_value item.now).order (NackFragAct asks) }
+    ensures { receiver_values.spoken_value result ≡ acts_spec.act_at state.now (wire_values.item_value item.now).at (wire_values.item_value item.now).order (receiver_values.ActBodyValue.NackFrag asks) }
 {
     Spoken {
         at: item.at,
@@ -123,7 +122,7 @@ fn asks_act<'a>(state: &State, item: &Item<'_>, asks: NackFrag) -> Spoken<'a>
 impl<'a> FragmentWalk<'a> {
     /// No acts. It takes no memory.
     pub fn new(alloc: Global) -> FragmentWalk<'a>
-        ensures { IsFragmentWalk [] 0 result }
+        ensures { fragment_walk.IsFragmentWalk [] 0 result }
     {
         FragmentWalk {
             acts: Vec::new(alloc),
@@ -140,8 +139,8 @@ impl<'a> FragmentWalk<'a> {
         item: &Item<'_>,
         fragments: &DataFrag<'a>,
     ) -> Result<(), Memory>
-        requires { IsDataFrag (data_frag_value fragments.now) }
-        ensures acts { OnOk result (AddsActs self.old self.new (skipped_acts state.now (item_value item.now) (Some (data_frag_value fragments.now)) None) 0) }
+        requires { data_frag.IsDataFrag (data_frag.data_frag_value fragments.now) }
+        ensures acts { OnOk result (fragment_walk.AddsActs self.old self.new (fragment_walk.skipped_acts state.now (wire_values.item_value item.now) (Some (data_frag.data_frag_value fragments.now)) None) 0) }
         ensures plain { OnOk result (self.new.plain ≡ self.old.plain) }
     {
         let place = self.acts.len();
@@ -154,7 +153,7 @@ impl<'a> FragmentWalk<'a> {
 
     /// Adds a NACK_FRAG that stands there, in this state. After `Memory` it is of no use.
     fn add_asks(&mut self, state: &State, item: &Item<'_>, asks: NackFrag) -> Result<(), Memory>
-        ensures acts { OnOk result (AddsActs self.old self.new (skipped_acts state.now (item_value item.now) None (Some asks)) 0) }
+        ensures acts { OnOk result (fragment_walk.AddsActs self.old self.new (fragment_walk.skipped_acts state.now (wire_values.item_value item.now) None (Some asks)) 0) }
         ensures plain { OnOk result (self.new.plain ≡ self.old.plain) }
     {
         let act = asks_act(state, item, asks);
@@ -168,10 +167,10 @@ impl<'a> FragmentWalk<'a> {
         requires unusable { self.old.unusable + 1 < 2 ^ 64 }
         requires skipped { self.old.plain.skipped + 1 < 2 ^ 64 }
         requires fragments { self.old.plain.fragments + 1 < 2 ^ 64 }
-        ensures acts { OnOk result (AddsActs self.old self.new (piece_acts_of_item datagram.now state.old (item_value item.now) (act_body (item_value item.now).body))
-            (one_unusable datagram.now (item_value item.now))) }
-        ensures plain { OnOk result (CountsItem self.old.plain self.new.plain (item_value item.now).body) }
-        ensures state { OnOk result (state.new ≡ state_behind state.old (item_value item.now ∷ [])) }
+        ensures acts { OnOk result (fragment_walk.AddsActs self.old self.new (fragment_walk.piece_acts_of_item datagram.now state.old (wire_values.item_value item.now) (acts_spec.act_body (wire_values.item_value item.now).body))
+            (fragment_walk.one_unusable datagram.now (wire_values.item_value item.now))) }
+        ensures plain { OnOk result (fragment_walk.CountsItem self.old.plain self.new.plain (wire_values.item_value item.now).body) }
+        ensures state { OnOk result (state.new ≡ acts_spec.state_behind state.old (wire_values.item_value item.now ∷ [])) }
     {
         if let Some(act) = state.spoken(item) {
             self.acts.extend_from_slice(slice::from_ref(&act))?;
@@ -195,11 +194,11 @@ impl<'a> FragmentWalk<'a> {
         items: Items<'a>,
         datagram: &'a [u8],
     ) -> Result<(), Memory>
-        requires few { self.old.unusable + length self.old.sents.items + length (outcomes_left items) < 2 ^ 64 }
-        requires plain { self.old.plain ≡ no_tally }
-        ensures plain { OnOk result (self.new.plain ≡ tally_of_outcomes (outcomes_left items.entry)) }
-        ensures acts { OnOk result (IsFragmentWalk [] 0 self.old → IsFragmentWalk (piece_acts_behind datagram.now start (items_among (outcomes_left items.entry)))
-            (unusable_among datagram.now (items_among (outcomes_left items.entry))) self.new) }
+        requires few { self.old.unusable + length self.old.sents.items + length (reading.outcomes_left items) < 2 ^ 64 }
+        requires plain { self.old.plain ≡ fragment_walk.no_tally }
+        ensures plain { OnOk result (self.new.plain ≡ tally.tally_of_outcomes (reading.outcomes_left items.entry)) }
+        ensures acts { OnOk result (fragment_walk.IsFragmentWalk [] 0 self.old → fragment_walk.IsFragmentWalk (fragment_walk.piece_acts_behind datagram.now start (reading.items_among (reading.outcomes_left items.entry)))
+            (fragment_walk.unusable_among datagram.now (reading.items_among (reading.outcomes_left items.entry))) self.new) }
     {
         let mut state = start;
         let mut items = items;
@@ -214,8 +213,8 @@ impl<'a> FragmentWalk<'a> {
 
     /// Takes out what is kept of a datagram.
     fn clear(&mut self)
-        ensures acts { IsFragmentWalk [] 0 self.new }
-        ensures plain { self.new.plain ≡ no_tally }
+        ensures acts { fragment_walk.IsFragmentWalk [] 0 self.new }
+        ensures plain { self.new.plain ≡ fragment_walk.no_tally }
     {
         self.acts.clear();
         self.sents.clear();
@@ -226,8 +225,8 @@ impl<'a> FragmentWalk<'a> {
     /// Reads a datagram of any length, up to its refusal, if it has one. Its acts, the fragments that its DATA_FRAG send, and its
     /// counts replace those of the datagram before. After `Memory` it is of no use.
     pub fn read(&mut self, datagram: &'a [u8]) -> Result<(), Memory>
-        ensures acts { OnOk result (IsFragmentWalk (piece_acts_of datagram.now) (unusable_in datagram.now) self.new) }
-        ensures plain { OnOk result (self.new.plain ≡ tally_of (reading_of datagram.now)) }
+        ensures acts { OnOk result (fragment_walk.IsFragmentWalk (fragment_walk.piece_acts_of datagram.now) (fragment_walk.unusable_in datagram.now) self.new) }
+        ensures plain { OnOk result (self.new.plain ≡ tally.tally_of (reading.reading_of datagram.now)) }
     {
         self.clear();
         match Items::open(datagram) {

@@ -1,12 +1,11 @@
 ghost use Rattle.std.specs.Prelude.{ℕ, ◌≡◌, ◌==◌, ◌<◌, ◌≤◌, ◌++◌, ◌∷◌, [], if◌then◌else◌, length, map, option_copied, slice_get, suc, List, IfOk, OnOk, Some, None};
 ghost use Rattle.std.specs.List.{concat, list_all, list_any};
 ghost use Rattle.std.specs.Str.{bytes_eq};
-ghost use Rattle.rtps_fragments.specs.Heard.{IsHeard, came_from, kept_first, kept_front, kept_other, with_part};
-ghost use Rattle.rtps_fragments.specs.FragmentDelivery.{last_fragment};
-ghost use Rattle.rtps_fragments.specs.Listeners.{came_first, is_octets};
-ghost use Rattle.rtps_wire.specs.DataFrag.{parts_in};
-ghost use Rattle.rtps_fragments.specs.Samples.{firsts_of, has_sample, samples_of};
-ghost use Rattle.rtps_fragments.specs.ToldSamples.{IsSent, sent_value, shape_of, told_by_sent, told_value};
+ghost use Rattle.rtps_fragments.specs.Heard as heard;
+ghost use Rattle.rtps_wire.specs.DataFrag as data_frag;
+ghost use Rattle.rtps_fragments.specs.Listeners as listeners;
+ghost use Rattle.rtps_fragments.specs.Samples as samples;
+ghost use Rattle.rtps_fragments.specs.ToldSamples as told_samples;
 
 use crate::piece::{FragmentRun, SentFragments};
 use crate::told_sample::ToldSample;
@@ -33,7 +32,7 @@ pub(crate) struct Heard<'a> {
 impl<'a> Heard<'a> {
     /// Nothing came.
     pub(crate) fn new(alloc: Global) -> Heard<'a>
-        ensures { (last : ℕ) → IsHeard last [] result }
+        ensures { (last : ℕ) → heard.IsHeard last [] result }
     {
         Heard {
             front: Vec::new(alloc),
@@ -46,7 +45,7 @@ impl<'a> Heard<'a> {
 
     /// The same once more.
     pub(crate) fn copy(&self) -> Result<Heard<'a>, Memory>
-        ensures { IfOk result (λ copy. (last : ℕ) (came : List (ℕ × List ℕ)) → IsHeard last came self.now → IsHeard last came copy) }
+        ensures { IfOk result (λ copy. (last : ℕ) (came : List (ℕ × List ℕ)) → heard.IsHeard last came self.now → heard.IsHeard last came copy) }
     {
         let mut front = Vec::with_capacity(self.alloc, self.front.len())?;
         front.extend_from_slice(&self.front)?;
@@ -62,7 +61,7 @@ impl<'a> Heard<'a> {
 
     /// How many fragments came from the first one on.
     fn front(&self) -> u64
-        ensures { result ≡ kept_front self.now }
+        ensures { result ≡ heard.kept_front self.now }
     {
         self.front.len() as u64
     }
@@ -70,7 +69,7 @@ impl<'a> Heard<'a> {
     /// The octets that came first for a fragment.
     fn first(&self, index: u64) -> Option<&'a [u8]>
         requires { 0 < index }
-        ensures { option_copied result ≡ kept_first self.now index }
+        ensures { option_copied result ≡ heard.kept_first self.now index }
     {
         if index <= self.front() {
             Some(self.front[index as usize - 1])
@@ -82,10 +81,10 @@ impl<'a> Heard<'a> {
     /// Moves those to the front that follow there, which takes no more room than it needs once each fragment came. After `Memory` it is
     /// of no use.
     fn advance(&mut self, last: u64) -> Result<(), Memory>
-        ensures firsts { OnOk result ((i : ℕ) → kept_first self.new i ≡ kept_first self.old i) }
-        ensures within { OnOk result (kept_front self.old ≤ last → kept_front self.new ≤ last) }
-        ensures next { OnOk result (kept_front self.new < last → kept_first self.new (suc (kept_front self.new)) ≡ None) }
-        ensures other { OnOk result (kept_other self.new ≡ kept_other self.old) }
+        ensures firsts { OnOk result ((i : ℕ) → heard.kept_first self.new i ≡ heard.kept_first self.old i) }
+        ensures within { OnOk result (heard.kept_front self.old ≤ last → heard.kept_front self.new ≤ last) }
+        ensures next { OnOk result (heard.kept_front self.new < last → heard.kept_first self.new (suc (heard.kept_front self.new)) ≡ None) }
+        ensures other { OnOk result (heard.kept_other self.new ≡ heard.kept_other self.old) }
     {
         while self.front() < last {
             let next = self.front() + 1;
@@ -101,10 +100,10 @@ impl<'a> Heard<'a> {
     /// Keeps the octets of a fragment that did not come before. After `Memory` it is of no use.
     fn put(&mut self, last: u64, index: u64, octets: &'a [u8]) -> Result<(), Memory>
         requires some { 0 < index }
-        requires absent { kept_first self.old index ≡ None }
-        ensures firsts { OnOk result ((i : ℕ) → kept_first self.new i ≡ (if i == index then Some octets.now else kept_first self.old i)) }
-        ensures within { OnOk result (kept_front self.old ≤ last → kept_front self.new ≤ last) }
-        ensures other { OnOk result (kept_other self.new ≡ kept_other self.old) }
+        requires absent { heard.kept_first self.old index ≡ None }
+        ensures firsts { OnOk result ((i : ℕ) → heard.kept_first self.new i ≡ (if i == index then Some octets.now else heard.kept_first self.old i)) }
+        ensures within { OnOk result (heard.kept_front self.old ≤ last → heard.kept_front self.new ≤ last) }
+        ensures other { OnOk result (heard.kept_other self.new ≡ heard.kept_other self.old) }
     {
         if self.front() < last && index == self.front() + 1 {
             self.front.push(octets)?;
@@ -117,7 +116,7 @@ impl<'a> Heard<'a> {
     /// Takes a fragment more of a sample with so many fragments. After `Memory` it is of no use.
     pub(crate) fn take(&mut self, last: u64, index: u64, octets: &'a [u8]) -> Result<(), Memory>
         requires { 0 < index }
-        ensures { OnOk result ((came : List (ℕ × List ℕ)) → IsHeard last came self.old → IsHeard last (came ++ (index, octets.now) ∷ []) self.new) }
+        ensures { OnOk result ((came : List (ℕ × List ℕ)) → heard.IsHeard last came self.old → heard.IsHeard last (came ++ (index, octets.now) ∷ []) self.new) }
     {
         if let Some(first) = self.first(index) {
             if self.other == 0 && first != octets {
@@ -133,7 +132,7 @@ impl<'a> Heard<'a> {
     /// Whether these octets came first for a fragment.
     fn has_first(&self, index: u64, octets: &[u8]) -> bool
         requires { 0 < index }
-        ensures { result ≡ is_octets (kept_first self.now index) octets.now }
+        ensures { result ≡ listeners.is_octets (heard.kept_first self.now index) octets.now }
     {
         match self.first(index) {
             Some(first) => first == octets,
@@ -145,8 +144,8 @@ impl<'a> Heard<'a> {
     pub(crate) fn knows(&self, shape: Shape, fragments: &FragmentRun<'_>) -> bool
         requires size { 0 < shape.fragment }
         requires first { 0 < fragments.now.first }
-        ensures { (last : ℕ) (came : List (ℕ × List ℕ)) → IsHeard last came self.now
-            → result ≡ list_all (came_first came) (came_from fragments.now.first (parts_in shape.fragment fragments.now.count fragments.now.octets.now)) }
+        ensures { (last : ℕ) (came : List (ℕ × List ℕ)) → heard.IsHeard last came self.now
+            → result ≡ list_all (listeners.came_first came) (heard.came_from fragments.now.first (data_frag.parts_in shape.fragment fragments.now.count fragments.now.octets.now)) }
     {
         let size = usize::from(shape.fragment);
         let mut rest = fragments.octets;
@@ -163,8 +162,8 @@ impl<'a> Heard<'a> {
     /// How many samples can be put together: none where some fragment did not come, two where one came with other octets.
     pub(crate) fn count(&self, last: u64) -> usize
         requires { 0 < last }
-        ensures samples { (came : List (ℕ × List ℕ)) → IsHeard last came self.now → result ≡ length (samples_of last came) }
-        ensures whole { 0 < result → last ≤ kept_front self.now }
+        ensures samples { (came : List (ℕ × List ℕ)) → heard.IsHeard last came self.now → result ≡ length (samples.samples_of last came) }
+        ensures whole { 0 < result → last ≤ heard.kept_front self.now }
     {
         if self.front() < last {
             0
@@ -179,9 +178,9 @@ impl<'a> Heard<'a> {
     /// so there are as many octets as the sample has, and room for them is asked for at once.
     fn joined(&self, shape: Shape, index: u64, octets: &[u8]) -> Result<Vec<u8>, Memory>
         requires size { 0 < shape.fragment }
-        requires whole { last_fragment shape ≤ kept_front self.now }
-        ensures { IfOk result (λ sample. (came : List (ℕ × List ℕ)) (parts : List (List ℕ)) → IsHeard (last_fragment shape) came self.now
-            → firsts_of came (last_fragment shape) ≡ Some parts → sample.items ≡ concat (with_part parts index octets.now)) }
+        requires whole { data_frag.last_fragment shape ≤ heard.kept_front self.now }
+        ensures { IfOk result (λ sample. (came : List (ℕ × List ℕ)) (parts : List (List ℕ)) → heard.IsHeard (data_frag.last_fragment shape) came self.now
+            → samples.firsts_of came (data_frag.last_fragment shape) ≡ Some parts → sample.items ≡ concat (heard.with_part parts index octets.now)) }
     {
         let mut sample = Vec::with_capacity(self.alloc, shape.sample as usize)?;
         for place in 0..shape.last_fragment() {
@@ -198,9 +197,9 @@ impl<'a> Heard<'a> {
     /// the other octets of the fragment that came with others.
     pub(crate) fn sample(&self, shape: Shape, place: usize) -> Result<Vec<u8>, Memory>
         requires size { 0 < shape.fragment }
-        requires whole { last_fragment shape ≤ kept_front self.now }
-        ensures { IfOk result (λ sample. (came : List (ℕ × List ℕ)) → IsHeard (last_fragment shape) came self.now
-            → place < length (samples_of (last_fragment shape) came) → slice_get (samples_of (last_fragment shape) came) place ≡ Some sample.items) }
+        requires whole { data_frag.last_fragment shape ≤ heard.kept_front self.now }
+        ensures { IfOk result (λ sample. (came : List (ℕ × List ℕ)) → heard.IsHeard (data_frag.last_fragment shape) came self.now
+            → place < length (samples.samples_of (data_frag.last_fragment shape) came) → slice_get (samples.samples_of (data_frag.last_fragment shape) came) place ≡ Some sample.items) }
     {
         if place == 0 {
             self.joined(shape, 0, &[])
@@ -213,8 +212,8 @@ impl<'a> Heard<'a> {
     fn take_all(&mut self, shape: Shape, fragments: &FragmentRun<'a>) -> Result<(), Memory>
         requires size { 0 < shape.fragment }
         requires first { 0 < fragments.now.first }
-        ensures { OnOk result ((came : List (ℕ × List ℕ)) → IsHeard (last_fragment shape) came self.old
-            → IsHeard (last_fragment shape) (came ++ came_from fragments.now.first (parts_in shape.fragment fragments.now.count fragments.now.octets.now)) self.new) }
+        ensures { OnOk result ((came : List (ℕ × List ℕ)) → heard.IsHeard (data_frag.last_fragment shape) came self.old
+            → heard.IsHeard (data_frag.last_fragment shape) (came ++ heard.came_from fragments.now.first (data_frag.parts_in shape.fragment fragments.now.count fragments.now.octets.now)) self.new) }
     {
         let last = shape.last_fragment();
         let size = usize::from(shape.fragment);
@@ -229,9 +228,9 @@ impl<'a> Heard<'a> {
 
     /// Takes fragments that are sent. After `Memory` it is of no use.
     pub(crate) fn take_sent(&mut self, sent: &SentFragments<'a>) -> Result<(), Memory>
-        requires { IsSent sent.now }
-        ensures { OnOk result ((came : List (ℕ × List ℕ)) → IsHeard (last_fragment (shape_of sent.now.key)) came self.old
-            → IsHeard (last_fragment (shape_of sent.now.key)) (came ++ (sent_value sent.now).came) self.new) }
+        requires { told_samples.IsSent sent.now }
+        ensures { OnOk result ((came : List (ℕ × List ℕ)) → heard.IsHeard (data_frag.last_fragment (told_samples.shape_of sent.now.key)) came self.old
+            → heard.IsHeard (data_frag.last_fragment (told_samples.shape_of sent.now.key)) (came ++ (told_samples.sent_value sent.now).came) self.new) }
     {
         self.take_all(sent.key.shape(), &sent.fragments)
     }
@@ -239,7 +238,7 @@ impl<'a> Heard<'a> {
     /// Whether a sample of so many fragments can be put together.
     pub(crate) fn is_whole(&self, last: u64) -> bool
         requires { 0 < last }
-        ensures { (came : List (ℕ × List ℕ)) → IsHeard last came self.now → result ≡ has_sample last came }
+        ensures { (came : List (ℕ × List ℕ)) → heard.IsHeard last came self.now → result ≡ samples.has_sample last came }
     {
         self.count(last) > 0
     }
@@ -247,8 +246,8 @@ impl<'a> Heard<'a> {
     /// Whether the octets are those of a sample of this shape that can be put together.
     pub(crate) fn has(&self, shape: Shape, octets: &[u8]) -> Result<bool, Memory>
         requires size { 0 < shape.fragment }
-        requires some { 0 < last_fragment shape }
-        ensures { IfOk result (λ has. (came : List (ℕ × List ℕ)) → IsHeard (last_fragment shape) came self.now → has ≡ list_any (bytes_eq octets.now) (samples_of (last_fragment shape) came)) }
+        requires some { 0 < data_frag.last_fragment shape }
+        ensures { IfOk result (λ has. (came : List (ℕ × List ℕ)) → heard.IsHeard (data_frag.last_fragment shape) came self.now → has ≡ list_any (bytes_eq octets.now) (samples.samples_of (data_frag.last_fragment shape) came)) }
     {
         for place in 0..self.count(shape.last_fragment()) {
             let sample = self.sample(shape, place)?;
@@ -267,11 +266,11 @@ impl<'a> Heard<'a> {
         audience: Audience,
         told: &mut Vec<ToldSample>,
     ) -> Result<(), Memory>
-        requires { IsSent sent.now }
-        ensures came { OnOk result ((came : List (ℕ × List ℕ)) → IsHeard (last_fragment (shape_of sent.now.key)) came self.old
-            → IsHeard (last_fragment (shape_of sent.now.key)) (came ++ (sent_value sent.now).came) self.new) }
-        ensures told { OnOk result ((came : List (ℕ × List ℕ)) → IsHeard (last_fragment (shape_of sent.now.key)) came self.old
-            → map told_value told.new.items ≡ map told_value told.old.items ++ told_by_sent (sent_value sent.now) audience came) }
+        requires { told_samples.IsSent sent.now }
+        ensures came { OnOk result ((came : List (ℕ × List ℕ)) → heard.IsHeard (data_frag.last_fragment (told_samples.shape_of sent.now.key)) came self.old
+            → heard.IsHeard (data_frag.last_fragment (told_samples.shape_of sent.now.key)) (came ++ (told_samples.sent_value sent.now).came) self.new) }
+        ensures told { OnOk result ((came : List (ℕ × List ℕ)) → heard.IsHeard (data_frag.last_fragment (told_samples.shape_of sent.now.key)) came self.old
+            → map told_samples.told_value told.new.items ≡ map told_samples.told_value told.old.items ++ told_samples.told_by_sent (told_samples.sent_value sent.now) audience came) }
     {
         let shape = sent.key.shape();
         let last = shape.last_fragment();

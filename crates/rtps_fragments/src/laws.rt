@@ -1,13 +1,13 @@
 //! Laws over definitions alone. Each function does nothing: its clause is the law, and its proof the law's proof.
 
-ghost use Rattle.rtps_fragments.specs.Laws.{FragmentsTellAlike, SamplesTellAlike, FragmentVerdictIsTold, ActsTellAlike, FragmentVerdictOfActs, FirstDatagramsTellAlike, FirstDatagramsDecideSamples, FirstDatagramsTellTheSame, ActsStayWithoutFragments, ActsStayWithoutPieces, VerdictStaysWithoutPieces, PiecesLeftAreOfNoSample, NotedSamplesAreSent, BuiltInSamplesAnnounce, AnnouncersAreBuiltIn, FewFragmentsMakeNoSample, NoneIsToldAgain, SamplesStandAlone, RecordedVerdictIsOfRuns, IntakeStaysWithoutFragments, FragmentsAreCounted, NoMoreFragmentsAreCounted, OnlyDataFragsHaveFragments};
+ghost use Rattle.rtps_fragments.specs.Laws as laws;
 
 use rtps_audit::laws::{runs_exist_where_founded, verdicts_agree};
 
 /// Where a recording with fragments and one without tell alike, and claim and announce the same, the verdict by all runs in which
 /// the reader takes fragments one by one is the verdict of the recording without fragments.
 pub fn fragments_tell_alike()
-    ensures { FragmentsTellAlike }
+    ensures { laws.FragmentsTellAlike }
 {
     verdicts_agree();
     runs_exist_where_founded();
@@ -16,13 +16,13 @@ pub fn fragments_tell_alike()
 /// A recording with fragments and the one into which its samples are told tell alike: of each sample the first payload that can be
 /// put together, and a second one where some fragment came with different octets.
 pub fn samples_tell_alike()
-    ensures { SamplesTellAlike }
+    ensures { laws.SamplesTellAlike }
 {}
 
 /// The verdict by all runs in which the reader takes fragments one by one is the verdict of the recording into which the samples are
 /// told, with its numbers, from any number on.
 pub fn fragment_verdict_is_told()
-    ensures { FragmentVerdictIsTold }
+    ensures { laws.FragmentVerdictIsTold }
 {
     fragments_tell_alike();
     samples_tell_alike();
@@ -31,13 +31,13 @@ pub fn fragment_verdict_is_told()
 /// Of any writer and reader, a recording with pieces and its acts with the samples among them tell alike, whoever hears which pieces of
 /// a sample.
 pub fn acts_tell_alike()
-    ensures { ActsTellAlike }
+    ensures { laws.ActsTellAlike }
 {}
 
 /// Of any writer and reader, the verdict by all runs in which the reader takes fragments one by one is the verdict of the acts of the
 /// recording with the samples among them, with its numbers, from any number on.
 pub fn fragment_verdict_of_acts()
-    ensures { FragmentVerdictOfActs }
+    ensures { laws.FragmentVerdictOfActs }
 {
     fragments_tell_alike();
     acts_tell_alike();
@@ -46,13 +46,13 @@ pub fn fragment_verdict_of_acts()
 /// The first datagrams of a recording with pieces, and the same ones of its acts with the samples among them, tell alike: what is sent
 /// later changes nothing for a reader.
 pub fn first_datagrams_tell_alike()
-    ensures { FirstDatagramsTellAlike }
+    ensures { laws.FirstDatagramsTellAlike }
 {}
 
 /// The verdict by the first datagrams of a recording with its samples is that by all runs, in which the reader takes fragments one by
 /// one, on the recording that ends there.
 pub fn first_datagrams_decide()
-    ensures { FirstDatagramsDecideSamples }
+    ensures { laws.FirstDatagramsDecideSamples }
 {
     fragments_tell_alike();
     first_datagrams_tell_alike();
@@ -61,17 +61,17 @@ pub fn first_datagrams_decide()
 /// The first datagrams of a recording with its samples have the acts that they have alone, each with the samples that it tells by what
 /// was sent before it. What is sent later adds nothing to them.
 pub fn first_datagrams_tell_the_same()
-    ensures { FirstDatagramsTellTheSame }
+    ensures { laws.FirstDatagramsTellTheSame }
 {}
 
 /// Where no act has a piece, no sample is told: the acts are as they are.
 pub fn acts_stay_without_pieces()
-    ensures { ActsStayWithoutPieces }
+    ensures { laws.ActsStayWithoutPieces }
 {}
 
 /// Where no act has a piece, the verdict by all runs in which the reader takes fragments is that of the acts as they are.
 pub fn verdict_stays_without_pieces()
-    ensures { VerdictStaysWithoutPieces }
+    ensures { laws.VerdictStaysWithoutPieces }
 {
     fragment_verdict_of_acts();
     acts_stay_without_pieces();
@@ -80,71 +80,71 @@ pub fn verdict_stays_without_pieces()
 /// A piece counts as left exactly where of all fragments that its writer sends, whoever hears them, no payload of its number can be put
 /// together.
 pub fn pieces_left_are_of_no_sample()
-    ensures { PiecesLeftAreOfNoSample }
+    ensures { laws.PiecesLeftAreOfNoSample }
 {}
 
 /// What a directory is to note as a sample of a writer can be put together of all fragments that the writer sends, whoever hears them.
 /// What can be put together of them is noted, or two payloads are that differ.
 pub fn noted_samples_are_sent()
-    ensures { NotedSamplesAreSent }
+    ensures { laws.NotedSamplesAreSent }
 {}
 
 /// Of a built-in writer, the acts of which a directory notes what they announce have the DATA of the recording and of each payload that is
 /// to be noted as a sample, and no others.
 pub fn built_in_samples_announce()
-    ensures { BuiltInSamplesAnnounce }
+    ensures { laws.BuiltInSamplesAnnounce }
 {}
 
 /// Each writer of which a directory notes what it announces is a built-in one.
 pub fn announcers_are_built_in()
-    ensures { AnnouncersAreBuiltIn }
+    ensures { laws.AnnouncersAreBuiltIn }
 {}
 
 /// Fewer fragments than a sample has make no payload of it, so that nothing is put together before as many came.
 pub fn few_fragments_make_no_sample()
-    ensures { FewFragmentsMakeNoSample }
+    ensures { laws.FewFragmentsMakeNoSample }
 {}
 
 /// What fragments tell an audience, no wider one can put together.
 pub fn none_is_told_again()
-    ensures { NoneIsToldAgain }
+    ensures { laws.NoneIsToldAgain }
 {}
 
 /// What an act tells of a sample depends on the acts with its pieces alone: those of its writer, its number and its shape.
 pub fn samples_stand_alone()
-    ensures { SamplesStandAlone }
+    ensures { laws.SamplesStandAlone }
 {}
 
 /// Of any writer and reader of a recording, whatever its octets are, the verdict by all runs in which the reader takes fragments one by
 /// one is that of the acts of the recording with the samples among them, with its numbers, from any number on.
 pub fn recorded_verdict_is_of_runs()
-    ensures { RecordedVerdictIsOfRuns }
+    ensures { laws.RecordedVerdictIsOfRuns }
 {
     fragment_verdict_of_acts();
 }
 
 /// Where no submessage of a recording belongs to fragments, an index with samples takes in what a plain one does.
 pub fn intake_stays_without_fragments()
-    ensures { IntakeStaysWithoutFragments }
+    ensures { laws.IntakeStaysWithoutFragments }
 {}
 
 /// Where no submessage of a recording belongs to fragments, its acts are the same, whether fragments are read or not.
 pub fn acts_stay_without_fragments()
-    ensures { ActsStayWithoutFragments }
+    ensures { laws.ActsStayWithoutFragments }
 {}
 
 /// As fragments of a recording with its samples those DATA_FRAG are counted that have no fragments that can be used, and those of a number
 /// of which no sample is whole: of which no payload can be put together of all fragments that the writer sends.
 pub fn fragments_are_counted()
-    ensures { FragmentsAreCounted }
+    ensures { laws.FragmentsAreCounted }
 {}
 
 /// Of a datagram, no more fragments are counted with samples than without.
 pub fn no_more_fragments_are_counted()
-    ensures { NoMoreFragmentsAreCounted }
+    ensures { laws.NoMoreFragmentsAreCounted }
 {}
 
 /// Only what is skipped as a DATA_FRAG has fragments.
 pub fn only_data_frags_have_fragments()
-    ensures { OnlyDataFragsHaveFragments }
+    ensures { laws.OnlyDataFragsHaveFragments }
 {}

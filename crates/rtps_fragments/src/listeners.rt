@@ -1,11 +1,10 @@
 ghost use Rattle.std.specs.Prelude.{ℕ, ◌≡◌, ◌<◌, ◌++◌, [], true, filter, if◌then◌else◌, length, map, slice_get, All, IfOk, List, OnOk, Some};
 ghost use Rattle.std.specs.List.{list_any};
 ghost use Rattle.rtps_receiver.specs.declared.speech.Audience.{Audience as AudienceValue};
-ghost use Rattle.rtps_fragments.specs.FragmentDelivery.{last_fragment};
-ghost use Rattle.rtps_fragments.specs.Listeners.{AreNamed, AudienceNews, begins, hears, silence, tells, told_between, told_by_audience, with_news};
+ghost use Rattle.rtps_wire.specs.DataFrag as data_frag;
 ghost use Rattle.rtps_fragments.specs.Listeners as listeners_spec;
-ghost use Rattle.rtps_fragments.specs.Making.{AreListeners, IsListener};
-ghost use Rattle.rtps_fragments.specs.ToldSamples.{IsSent, offer_of, sent_value, shape_of, told_each, told_value};
+ghost use Rattle.rtps_fragments.specs.Making as making;
+ghost use Rattle.rtps_fragments.specs.ToldSamples as told_samples;
 
 use crate::heard::Heard;
 use crate::piece::SentFragments;
@@ -105,7 +104,7 @@ impl<'a> Listener<'a> {
     /// Another audience, which heard the same.
     fn copy_for(&self, audience: Audience) -> Result<Listener<'a>, Memory>
         ensures audience { IfOk result (λ copy. copy.audience ≡ audience) }
-        ensures same { IfOk result (λ copy. (last : ℕ) (before came : List (ℕ × List ℕ)) → IsListener last before came self.now → IsListener last before came copy) }
+        ensures same { IfOk result (λ copy. (last : ℕ) (before came : List (ℕ × List ℕ)) → making.IsListener last before came self.now → making.IsListener last before came copy) }
     {
         Ok(Listener {
             audience,
@@ -116,10 +115,10 @@ impl<'a> Listener<'a> {
 
     /// Fragments are sent. After `Memory` it is of no use.
     fn hear(&mut self, sent: &SentFragments<'a>) -> Result<(), Memory>
-        requires { IsSent sent.now }
+        requires { told_samples.IsSent sent.now }
         ensures audience { OnOk result (self.new.audience ≡ self.old.audience) }
-        ensures came { OnOk result ((before came : List (ℕ × List ℕ)) → IsListener (last_fragment (shape_of sent.now.key)) before came self.old
-            → IsListener (last_fragment (shape_of sent.now.key)) before (came ++ (if listeners_spec.is_for_audience sent.now.audience self.old.audience then (sent_value sent.now).came else [])) self.new) }
+        ensures came { OnOk result ((before came : List (ℕ × List ℕ)) → making.IsListener (data_frag.last_fragment (told_samples.shape_of sent.now.key)) before came self.old
+            → making.IsListener (data_frag.last_fragment (told_samples.shape_of sent.now.key)) before (came ++ (if listeners_spec.is_for_audience sent.now.audience self.old.audience then (told_samples.sent_value sent.now).came else [])) self.new) }
     {
         if is_for_audience(&sent.audience, &self.audience) {
             self.heard.take_sent(sent)?;
@@ -138,7 +137,7 @@ pub(crate) struct Listeners<'a> {
 impl<'a> Listeners<'a> {
     /// Everyone, and nothing was sent.
     pub(crate) fn new(alloc: Global) -> Result<Listeners<'a>, Memory>
-        ensures { IfOk result (λ listeners. (last : ℕ) → AreListeners last silence silence listeners.each.items) }
+        ensures { IfOk result (λ listeners. (last : ℕ) → making.AreListeners last listeners_spec.silence listeners_spec.silence listeners.each.items) }
     {
         // Most samples have no other.
         let mut each = Vec::with_capacity(alloc, 1)?;
@@ -152,8 +151,8 @@ impl<'a> Listeners<'a> {
 
     /// Whether all to whom fragments are sent have them already.
     fn know(&self, sent: &SentFragments<'_>) -> bool
-        requires { IsSent sent.now }
-        ensures { (last : ℕ) (hearing : AudienceNews) → AreListeners last hearing hearing self.now.each.items → result ≡ listeners_spec.is_known hearing (offer_of (sent_value sent.now)) }
+        requires { told_samples.IsSent sent.now }
+        ensures { (last : ℕ) (hearing : listeners_spec.AudienceNews) → making.AreListeners last hearing hearing self.now.each.items → result ≡ listeners_spec.is_known hearing (told_samples.offer_of (told_samples.sent_value sent.now)) }
     {
         for listener in self.each.iter() {
             if is_for_audience(&listener.audience, &sent.audience)
@@ -180,8 +179,8 @@ impl<'a> Listeners<'a> {
             ≡ map (listeners_spec.named_so name) (filter (listeners_spec.has_no_name name) (map (λ listener. listener.audience) self.now.each.items))) }
         ensures same { IfOk result (λ copies. (last : ℕ) (heard : AudienceValue → List (ℕ × List ℕ))
             → ((audience : AudienceValue) → listeners_spec.has_no_name name audience ≡ true → heard (listeners_spec.named_so name audience) ≡ heard audience)
-            → All (λ listener. IsListener last (heard listener.audience) (heard listener.audience) listener) self.now.each.items
-            → All (λ listener. IsListener last (heard listener.audience) (heard listener.audience) listener) copies.items) }
+            → All (λ listener. making.IsListener last (heard listener.audience) (heard listener.audience) listener) self.now.each.items
+            → All (λ listener. making.IsListener last (heard listener.audience) (heard listener.audience) listener) copies.items) }
     {
         let mut copies = Vec::new(self.alloc);
         for listener in self.each.iter() {
@@ -194,8 +193,8 @@ impl<'a> Listeners<'a> {
 
     /// Begins the audiences with a name, if it is new: each as a copy of what a wider one heard. After `Memory` it is of no use.
     fn begin(&mut self, name: Name) -> Result<(), Memory>
-        ensures { OnOk result ((last : ℕ) (hearing : AudienceNews) → AreNamed hearing → AreListeners last hearing hearing self.old.each.items
-            → AreListeners last (begins hearing name) (begins hearing name) self.new.each.items) }
+        ensures { OnOk result ((last : ℕ) (hearing : listeners_spec.AudienceNews) → listeners_spec.AreNamed hearing → making.AreListeners last hearing hearing self.old.each.items
+            → making.AreListeners last (listeners_spec.begins hearing name) (listeners_spec.begins hearing name) self.new.each.items) }
     {
         if self.has_name(name) {
             return Ok(());
@@ -207,9 +206,9 @@ impl<'a> Listeners<'a> {
 
     /// Each hears fragments that are sent. After `Memory` it is of no use.
     fn take(&mut self, sent: &SentFragments<'a>) -> Result<(), Memory>
-        requires { IsSent sent.now }
-        ensures { OnOk result ((hearing : AudienceNews) → AreListeners (last_fragment (shape_of sent.now.key)) hearing hearing self.old.each.items
-            → AreListeners (last_fragment (shape_of sent.now.key)) hearing (with_news hearing (offer_of (sent_value sent.now))) self.new.each.items) }
+        requires { told_samples.IsSent sent.now }
+        ensures { OnOk result ((hearing : listeners_spec.AudienceNews) → making.AreListeners (data_frag.last_fragment (told_samples.shape_of sent.now.key)) hearing hearing self.old.each.items
+            → making.AreListeners (data_frag.last_fragment (told_samples.shape_of sent.now.key)) hearing (listeners_spec.with_news hearing (told_samples.offer_of (told_samples.sent_value sent.now))) self.new.each.items) }
     {
         for place in 0..self.each.len() {
             self.each[place].hear(sent)?;
@@ -220,9 +219,9 @@ impl<'a> Listeners<'a> {
     /// Whether an audience that is wider than this one has the sample with these octets.
     fn have(&self, audience: &Audience, shape: Shape, octets: &[u8]) -> Result<bool, Memory>
         requires size { 0 < shape.fragment }
-        requires some { 0 < last_fragment shape }
-        ensures { IfOk result (λ have. (before now : AudienceNews) → AreListeners (last_fragment shape) before now self.now.each.items
-            → have ≡ listeners_spec.is_had (last_fragment shape) now audience.now octets.now) }
+        requires some { 0 < data_frag.last_fragment shape }
+        ensures { IfOk result (λ have. (before now : listeners_spec.AudienceNews) → making.AreListeners (data_frag.last_fragment shape) before now self.now.each.items
+            → have ≡ listeners_spec.is_had (data_frag.last_fragment shape) now audience.now octets.now) }
     {
         for listener in self.each.iter() {
             if is_wider(&listener.audience, audience) && listener.heard.has(shape, octets)? {
@@ -240,12 +239,12 @@ impl<'a> Listeners<'a> {
         sent: &SentFragments<'_>,
         told: &mut Vec<ToldSample>,
     ) -> Result<(), Memory>
-        requires sent { IsSent sent.now }
+        requires sent { told_samples.IsSent sent.now }
         requires within { place < length self.now.each.items }
-        ensures { OnOk result ((before now : AudienceNews) (audience : AudienceValue) → AreListeners (last_fragment (shape_of sent.now.key)) before now self.now.each.items
+        ensures { OnOk result ((before now : listeners_spec.AudienceNews) (audience : AudienceValue) → making.AreListeners (data_frag.last_fragment (told_samples.shape_of sent.now.key)) before now self.now.each.items
             → slice_get now.audiences place ≡ Some audience
-            → map told_value told.new.items ≡ map told_value told.old.items
-            ++ told_each sent.now.act (shape_of sent.now.key) (told_by_audience (last_fragment (shape_of sent.now.key)) before now audience)) }
+            → map told_samples.told_value told.new.items ≡ map told_samples.told_value told.old.items
+            ++ told_samples.told_each sent.now.act (told_samples.shape_of sent.now.key) (listeners_spec.told_by_audience (data_frag.last_fragment (told_samples.shape_of sent.now.key)) before now audience)) }
     {
         let shape = sent.key.shape();
         let listener = &self.each[place];
@@ -265,10 +264,10 @@ impl<'a> Listeners<'a> {
 
     /// Appends the samples that fragments tell, each to an audience.
     fn tell(&self, sent: &SentFragments<'_>, told: &mut Vec<ToldSample>) -> Result<(), Memory>
-        requires { IsSent sent.now }
-        ensures { OnOk result ((before now : AudienceNews) → AreListeners (last_fragment (shape_of sent.now.key)) before now self.now.each.items
-            → map told_value told.new.items ≡ map told_value told.old.items
-            ++ told_each sent.now.act (shape_of sent.now.key) (told_between (last_fragment (shape_of sent.now.key)) before now)) }
+        requires { told_samples.IsSent sent.now }
+        ensures { OnOk result ((before now : listeners_spec.AudienceNews) → making.AreListeners (data_frag.last_fragment (told_samples.shape_of sent.now.key)) before now self.now.each.items
+            → map told_samples.told_value told.new.items ≡ map told_samples.told_value told.old.items
+            ++ told_samples.told_each sent.now.act (told_samples.shape_of sent.now.key) (listeners_spec.told_between (data_frag.last_fragment (told_samples.shape_of sent.now.key)) before now)) }
     {
         for place in 0..self.each.len() {
             self.push_told(place, sent, told)?;
@@ -279,7 +278,7 @@ impl<'a> Listeners<'a> {
     /// The samples that each can put together now were gone through.
     fn settle(&mut self, last: u64)
         requires { 0 < last }
-        ensures { (before now : AudienceNews) → AreListeners last before now self.old.each.items → AreListeners last now now self.new.each.items }
+        ensures { (before now : listeners_spec.AudienceNews) → making.AreListeners last before now self.old.each.items → making.AreListeners last now now self.new.each.items }
     {
         for place in 0..self.each.len() {
             let told = self.each[place].heard.count(last);
@@ -293,11 +292,11 @@ impl<'a> Listeners<'a> {
         sent: &SentFragments<'a>,
         told: &mut Vec<ToldSample>,
     ) -> Result<(), Memory>
-        requires { IsSent sent.now }
-        ensures { OnOk result ((hearing : AudienceNews) → AreNamed hearing → AreListeners (last_fragment (shape_of sent.now.key)) hearing hearing self.old.each.items
-            → AreListeners (last_fragment (shape_of sent.now.key)) (hears hearing (offer_of (sent_value sent.now))) (hears hearing (offer_of (sent_value sent.now))) self.new.each.items
-            × (map told_value told.new.items ≡ map told_value told.old.items
-            ++ told_each sent.now.act (shape_of sent.now.key) (tells (last_fragment (shape_of sent.now.key)) hearing (offer_of (sent_value sent.now))))) }
+        requires { told_samples.IsSent sent.now }
+        ensures { OnOk result ((hearing : listeners_spec.AudienceNews) → listeners_spec.AreNamed hearing → making.AreListeners (data_frag.last_fragment (told_samples.shape_of sent.now.key)) hearing hearing self.old.each.items
+            → making.AreListeners (data_frag.last_fragment (told_samples.shape_of sent.now.key)) (listeners_spec.hears hearing (told_samples.offer_of (told_samples.sent_value sent.now))) (listeners_spec.hears hearing (told_samples.offer_of (told_samples.sent_value sent.now))) self.new.each.items
+            × (map told_samples.told_value told.new.items ≡ map told_samples.told_value told.old.items
+            ++ told_samples.told_each sent.now.act (told_samples.shape_of sent.now.key) (listeners_spec.tells (data_frag.last_fragment (told_samples.shape_of sent.now.key)) hearing (told_samples.offer_of (told_samples.sent_value sent.now))))) }
     {
         if self.know(sent) {
             return Ok(());

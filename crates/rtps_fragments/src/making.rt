@@ -1,11 +1,11 @@
 ghost use Rattle.std.specs.Prelude.{◌≡◌, ◌<◌, ◌++◌, ◌∷◌, [], false, map, All, IfOk, List, None, OnOk};
 ghost use Rattle.std.specs.BTreeMap.{get};
 ghost use Rattle.std.specs.Ordering.{is_eq};
-ghost use Rattle.rtps_fragments.specs.FragmentDelivery.{last_fragment};
-ghost use Rattle.rtps_fragments.specs.Listeners.{Offer, everyone};
-ghost use Rattle.rtps_fragments.specs.Making.{AddsTold, AreMakings, HasMaking, IsMaking, all_came};
-ghost use Rattle.rtps_fragments.specs.Samples.{has_sample};
-ghost use Rattle.rtps_fragments.specs.ToldSamples.{IsSent, SentValue, offer_of, overheard_behind, overheard_by_offers, overheard_in_turn, sample_cmp, sent_value, shape_of, told_behind, told_by_offers, told_in_turn, told_value};
+ghost use Rattle.rtps_wire.specs.DataFrag as data_frag;
+ghost use Rattle.rtps_fragments.specs.Listeners as listeners_spec;
+ghost use Rattle.rtps_fragments.specs.Making as making;
+ghost use Rattle.rtps_fragments.specs.Samples as samples;
+ghost use Rattle.rtps_fragments.specs.ToldSamples as told_samples;
 ghost use Rattle.rtps_fragments.specs.declared.piece.SampleKey.{SampleKey as SampleKeyValue};
 
 use crate::announcements::is_built_in;
@@ -49,7 +49,7 @@ pub(crate) struct Makings<'a> {
 impl<'a> Making<'a> {
     /// Nothing was sent.
     fn new(alloc: Global, key: &SampleKey) -> Result<Making<'a>, Memory>
-        ensures { IfOk result (IsMaking key.now []) }
+        ensures { IfOk result (making.IsMaking key.now []) }
     {
         let everything = if is_built_in(key.writer.entity) {
             Some(Heard::new(alloc))
@@ -64,8 +64,8 @@ impl<'a> Making<'a> {
 
     /// From now on keeps apart what came of it, if fragments are not for everyone. After `Memory` it is of no use.
     fn part(&mut self, audience: &Audience) -> Result<(), Memory>
-        ensures { OnOk result ((key : SampleKeyValue) (offers : List Offer) → IsMaking key offers self.old
-            → IsMaking key offers self.new × (self.new.everything ≡ None → audience.now ≡ everyone)) }
+        ensures { OnOk result ((key : SampleKeyValue) (offers : List listeners_spec.Offer) → making.IsMaking key offers self.old
+            → making.IsMaking key offers self.new × (self.new.everything ≡ None → audience.now ≡ listeners_spec.everyone)) }
     {
         if self.everything.is_some() || is_for_audience(audience, &EVERYONE) {
             return Ok(());
@@ -78,10 +78,10 @@ impl<'a> Making<'a> {
 
     /// Fragments are sent, and the samples that they tell are appended. After `Memory` it is of no use.
     fn hear(&mut self, sent: &SentFragments<'a>, told: &mut Told) -> Result<(), Memory>
-        requires { IsSent sent.now }
-        ensures { OnOk result ((offers : List Offer) → IsMaking sent.now.key offers self.old
-            → IsMaking sent.now.key (offers ++ offer_of (sent_value sent.now) ∷ []) self.new
-            × AddsTold told.old told.new (told_by_offers offers (sent_value sent.now)) (overheard_by_offers offers (sent_value sent.now))) }
+        requires { told_samples.IsSent sent.now }
+        ensures { OnOk result ((offers : List listeners_spec.Offer) → making.IsMaking sent.now.key offers self.old
+            → making.IsMaking sent.now.key (offers ++ told_samples.offer_of (told_samples.sent_value sent.now) ∷ []) self.new
+            × making.AddsTold told.old told.new (told_samples.told_by_offers offers (told_samples.sent_value sent.now)) (told_samples.overheard_by_offers offers (told_samples.sent_value sent.now))) }
     {
         self.part(&sent.audience)?;
         self.listeners.hear(sent, &mut told.heard)?;
@@ -97,7 +97,7 @@ impl<'a> Making<'a> {
     /// Whether it can be put together, of so many fragments.
     fn is_whole(&self, last: u64) -> bool
         requires { 0 < last }
-        ensures { (key : SampleKeyValue) (offers : List Offer) → IsMaking key offers self.now → last ≡ last_fragment (shape_of key) → result ≡ has_sample last (all_came offers) }
+        ensures { (key : SampleKeyValue) (offers : List listeners_spec.Offer) → making.IsMaking key offers self.now → last ≡ data_frag.last_fragment (told_samples.shape_of key) → result ≡ samples.has_sample last (making.all_came offers) }
     {
         match (&self.everything, self.listeners.each.first()) {
             (Some(everything), _) => everything.is_whole(last),
@@ -115,14 +115,14 @@ fn hear<'a>(
     sent: &SentFragments<'a>,
     told: &mut Told,
 ) -> Result<bool, Memory>
-    requires { IsSent sent.now }
-    ensures here { OnOk result ((offers : List Offer) → HasMaking sent.now.key offers (get sample_cmp kept.old sent.now.key)
-        → HasMaking sent.now.key (offers ++ offer_of (sent_value sent.now) ∷ []) (get sample_cmp kept.new sent.now.key)
-        × AddsTold told.old told.new (told_by_offers offers (sent_value sent.now)) (overheard_by_offers offers (sent_value sent.now))) }
-    ensures others { OnOk result ((other : SampleKeyValue) → is_eq (sample_cmp sent.now.key other) ≡ false
-        → get sample_cmp kept.new other ≡ get sample_cmp kept.old other) }
-    ensures whole { IfOk result (λ whole. (offers : List Offer) → HasMaking sent.now.key offers (get sample_cmp kept.old sent.now.key)
-        → whole ≡ has_sample (last_fragment (shape_of sent.now.key)) (all_came (offers ++ offer_of (sent_value sent.now) ∷ []))) }
+    requires { told_samples.IsSent sent.now }
+    ensures here { OnOk result ((offers : List listeners_spec.Offer) → making.HasMaking sent.now.key offers (get told_samples.sample_cmp kept.old sent.now.key)
+        → making.HasMaking sent.now.key (offers ++ told_samples.offer_of (told_samples.sent_value sent.now) ∷ []) (get told_samples.sample_cmp kept.new sent.now.key)
+        × making.AddsTold told.old told.new (told_samples.told_by_offers offers (told_samples.sent_value sent.now)) (told_samples.overheard_by_offers offers (told_samples.sent_value sent.now))) }
+    ensures others { OnOk result ((other : SampleKeyValue) → is_eq (told_samples.sample_cmp sent.now.key other) ≡ false
+        → get told_samples.sample_cmp kept.new other ≡ get told_samples.sample_cmp kept.old other) }
+    ensures whole { IfOk result (λ whole. (offers : List listeners_spec.Offer) → making.HasMaking sent.now.key offers (get told_samples.sample_cmp kept.old sent.now.key)
+        → whole ≡ samples.has_sample (data_frag.last_fragment (told_samples.shape_of sent.now.key)) (making.all_came (offers ++ told_samples.offer_of (told_samples.sent_value sent.now) ∷ []))) }
 {
     let last = sent.key.shape().last_fragment();
     if let Some(making) = kept.get_mut(&sent.key) {
@@ -139,7 +139,7 @@ fn hear<'a>(
 impl<'a> Makings<'a> {
     /// Nothing was sent.
     pub(crate) fn new(alloc: Global) -> Makings<'a>
-        ensures { AreMakings [] result }
+        ensures { making.AreMakings [] result }
     {
         Makings {
             kept: BTreeMap::new(alloc),
@@ -150,9 +150,9 @@ impl<'a> Makings<'a> {
 
     /// Fragments are sent, and the samples that they tell are appended. After `Memory` it is of no use.
     fn take(&mut self, sent: &SentFragments<'a>, told: &mut Told) -> Result<(), Memory>
-        requires { IsSent sent.now }
-        ensures { OnOk result ((before : List SentValue) → AreMakings before self.old → AreMakings (before ++ sent_value sent.now ∷ []) self.new
-            × AddsTold told.old told.new (told_behind before (sent_value sent.now)) (overheard_behind before (sent_value sent.now))) }
+        requires { told_samples.IsSent sent.now }
+        ensures { OnOk result ((before : List told_samples.SentValue) → making.AreMakings before self.old → making.AreMakings (before ++ told_samples.sent_value sent.now ∷ []) self.new
+            × making.AddsTold told.old told.new (told_samples.told_behind before (told_samples.sent_value sent.now)) (told_samples.overheard_behind before (told_samples.sent_value sent.now))) }
     {
         if hear(&mut self.kept, self.alloc, sent, told)? {
             self.whole.insert(key_number(&sent.key))?;
@@ -162,10 +162,10 @@ impl<'a> Makings<'a> {
 
     /// Fragments are sent, one act after another, and the samples that they tell are given. After `Memory` it is of no use.
     pub(crate) fn take_all(&mut self, sents: &[SentFragments<'a>]) -> Result<Told, Memory>
-        requires { All IsSent sents.now }
-        ensures { IfOk result (λ told. (before : List SentValue) → AreMakings before self.old → AreMakings (before ++ map sent_value sents.now) self.new
-            × (map told_value told.heard.items ≡ told_in_turn before (map sent_value sents.now))
-            × (map told_value told.overheard.items ≡ overheard_in_turn before (map sent_value sents.now))) }
+        requires { All told_samples.IsSent sents.now }
+        ensures { IfOk result (λ told. (before : List told_samples.SentValue) → making.AreMakings before self.old → making.AreMakings (before ++ map told_samples.sent_value sents.now) self.new
+            × (map told_samples.told_value told.heard.items ≡ told_samples.told_in_turn before (map told_samples.sent_value sents.now))
+            × (map told_samples.told_value told.overheard.items ≡ told_samples.overheard_in_turn before (map told_samples.sent_value sents.now))) }
     {
         let mut told = Told {
             heard: Vec::new(self.alloc),

@@ -1,9 +1,8 @@
 ghost use Rattle.std.specs.Prelude.{◌≡◌, ◌≤◌, ◌++◌, drop, length, map, take, OnOk};
-ghost use Rattle.rtps_receiver.specs.Values.{spoken_value};
-ghost use Rattle.rtps_wire.specs.Values.{payload_value};
-ghost use Rattle.rtps_fragments.specs.Merging.{acts_told, merged_from, run_of, run_past};
+ghost use Rattle.rtps_receiver.specs.Values as receiver_values;
+ghost use Rattle.rtps_wire.specs.Values as wire_values;
 ghost use Rattle.rtps_fragments.specs.Merging as merging;
-ghost use Rattle.rtps_fragments.specs.ToldSamples.{told_value};
+ghost use Rattle.rtps_fragments.specs.ToldSamples as told_samples;
 
 use crate::told_sample::ToldSample;
 use rtps_ids::{Memory, SeqNum};
@@ -22,7 +21,7 @@ pub(crate) enum SampleForm {
 
 /// The payload of a sample.
 fn payload_of(told: &ToldSample) -> Payload<'_>
-    ensures { payload_value result ≡ (told_value told.now).payload }
+    ensures { wire_values.payload_value result ≡ (told_samples.told_value told.now).payload }
 {
     if told.is_key {
         Payload::Key(&told.octets)
@@ -38,7 +37,7 @@ fn act_as<'s>(
     number: SeqNum,
     told: &'s ToldSample,
 ) -> Spoken<'s>
-    ensures { spoken_value result ≡ merging.act_as form (spoken_value act.now) number (told_value told.now) }
+    ensures { receiver_values.spoken_value result ≡ merging.act_as form (receiver_values.spoken_value act.now) number (told_samples.told_value told.now) }
 {
     let writer = act.origin().entity;
     let payload = payload_of(told);
@@ -74,7 +73,7 @@ fn push_told<'s>(
     act: &Spoken<'s>,
     told: &'s [ToldSample],
 ) -> Result<(), Memory>
-    ensures { OnOk result (map spoken_value acts.new.items ≡ map spoken_value acts.old.items ++ acts_told form (spoken_value act.now) (spoken_value act.now).body (map told_value told.now)) }
+    ensures { OnOk result (map receiver_values.spoken_value acts.new.items ≡ map receiver_values.spoken_value acts.old.items ++ merging.acts_told form (receiver_values.spoken_value act.now) (receiver_values.spoken_value act.now).body (map told_samples.told_value told.now)) }
 {
     let SpokenBody::DataFrag(fragment) = &act.body else {
         return Ok(());
@@ -89,8 +88,8 @@ fn push_told<'s>(
 /// How many of these, from the first on, the act at this place tells.
 fn run_length(told: &[ToldSample], act: usize) -> usize
     ensures within { result ≤ length told.now }
-    ensures run { run_of act (map told_value told.now) ≡ map told_value (take result told.now) }
-    ensures past { run_past act (map told_value told.now) ≡ map told_value (drop result told.now) }
+    ensures run { merging.run_of act (map told_samples.told_value told.now) ≡ map told_samples.told_value (take result told.now) }
+    ensures past { merging.run_past act (map told_samples.told_value told.now) ≡ map told_samples.told_value (drop result told.now) }
 {
     for place in 0..told.len() {
         if told[place].act != act {
@@ -107,7 +106,7 @@ pub(crate) fn merge<'s>(
     acts: &[Spoken<'s>],
     told: &'s [ToldSample],
 ) -> Result<(), Memory>
-    ensures { OnOk result (map spoken_value merged.new.items ≡ merged_from form 0 (map spoken_value acts.now) (map told_value told.now)) }
+    ensures { OnOk result (map receiver_values.spoken_value merged.new.items ≡ merging.merged_from form 0 (map receiver_values.spoken_value acts.now) (map told_samples.told_value told.now)) }
 {
     merged.clear();
     let mut rest = told;

@@ -1,5 +1,5 @@
 ghost use Rattle.std.specs.Prelude.{◌≡◌};
-ghost use Rattle.rtps_fragments.specs.ToldSamples.{shape_of};
+ghost use Rattle.rtps_fragments.specs.ToldSamples as told_samples;
 
 use rtps_ids::{Guid, SeqNum};
 use rtps_receiver::Audience;
@@ -33,7 +33,7 @@ pub(crate) struct SampleKey {
 impl SampleKey {
     /// The shape of the sample.
     pub(crate) fn shape(self) -> Shape
-        ensures { result ≡ shape_of self }
+        ensures { result ≡ told_samples.shape_of self }
     {
         Shape {
             sample: self.sample,

@@ -1,15 +1,15 @@
 ghost use Rattle.std.specs.Prelude.{ℕ, ◌≡◌, ◌+◌, ◌<◌, ◌^◌, ◌++◌, ◌∷◌, [], drop, length, map, take, IfOk, List, OnOk};
-ghost use Rattle.rtps_audit.specs.Index.{IsIndexBy};
-ghost use Rattle.rtps_audit.specs.Intake.{Intake, intake_more, no_intake};
-ghost use Rattle.rtps_fragments.specs.Announcements.{IsIndexedBy};
-ghost use Rattle.rtps_fragments.specs.Merging.{merged_from};
-ghost use Rattle.rtps_fragments.specs.ReadDatagrams.{ReadDatagramValue, datagram_read, read_of};
-ghost use Rattle.rtps_fragments.specs.RecordedSamples.{AreSamplesOf, IsPlainStart, intake_as, intake_with};
-ghost use Rattle.rtps_fragments.specs.FragmentVerdict.{IsFragmentVerdictFrom};
-ghost use Rattle.rtps_fragments.specs.SampleActs.{fragment_speech_of};
-ghost use Rattle.rtps_fragments.specs.FragmentWalk.{piece_acts_of, sending_of};
-ghost use Rattle.rtps_fragments.specs.ToldSamples.{SentValue, told_value};
-ghost use Rattle.rtps_fragments.specs.Whole.{AreWholeIn, tally_left};
+ghost use Rattle.rtps_audit.specs.Index as index_spec;
+ghost use Rattle.rtps_audit.specs.Intake as intake_spec;
+ghost use Rattle.rtps_fragments.specs.Announcements as announcements;
+ghost use Rattle.rtps_fragments.specs.Merging as merging;
+ghost use Rattle.rtps_fragments.specs.ReadDatagrams as read_datagrams;
+ghost use Rattle.rtps_fragments.specs.RecordedSamples as recorded_samples;
+ghost use Rattle.rtps_fragments.specs.FragmentVerdict as fragment_verdict;
+ghost use Rattle.rtps_fragments.specs.SampleActs as sample_acts;
+ghost use Rattle.rtps_fragments.specs.FragmentWalk as fragment_walk;
+ghost use Rattle.rtps_fragments.specs.ToldSamples as told_samples;
+ghost use Rattle.rtps_fragments.specs.Whole as whole_spec;
 ghost use Rattle.rtps_fragments.specs.declared.fragments.Fragments.TheVariants.{Read, Skipped};
 ghost use Rattle.rtps_fragments.specs.declared.merging.SampleForm.TheVariants.{ForAudience, ForEveryone};
 
@@ -56,7 +56,7 @@ struct Reading<'s> {
 impl<'s> Reading<'s> {
     /// Nothing is read. It takes no memory.
     fn new(alloc: Global) -> Reading<'s>
-        ensures { IsIndexedBy no_intake result.indexed }
+        ensures { announcements.IsIndexedBy intake_spec.no_intake result.indexed }
     {
         Reading {
             indexed: Indexed::new(alloc),
@@ -89,14 +89,14 @@ fn note_datagram<'s, L: Listen>(
     listener: &mut L,
 ) -> Result<(), Memory>
     requires few { reading.old.indexed.index.tallies.datagrams + 1 < 2 ^ 64 }
-    requires next { (start : L) × (before : List ReadDatagramValue) × L.has_heard start before listener.old × (length before + 1 ≡ samples.now.datagram) }
-    ensures heard { OnOk result ((start : L) (before : List ReadDatagramValue) → L.has_heard start before listener.old
-        → L.has_heard start (before ++ datagram_read samples.now.datagram (map (λ one. one.act) (piece_acts_of octets.now))
-        (merged_from ForEveryone 0 (map (λ one. one.act) (piece_acts_of octets.now)) (map told_value samples.now.overheard.now)) ∷ []) listener.new) }
-    ensures index { OnOk result ((intake : Intake) (all : List SentValue) → AreWholeIn all samples.now.whole.now
-        → samples.now.datagram ≡ length intake.announcing + 1 → IsIndexedBy intake reading.old.indexed
-        → IsIndexedBy (intake_more intake (tally_left all octets.now) (merged_from ForAudience 0 (map (λ one. one.act) (piece_acts_of octets.now)) (map told_value samples.now.told.now))
-        (merged_from ForEveryone 0 (map (λ one. one.act) (piece_acts_of octets.now)) (map told_value samples.now.overheard.now))) reading.new.indexed) }
+    requires next { (start : L) × (before : List read_datagrams.ReadDatagramValue) × L.has_heard start before listener.old × (length before + 1 ≡ samples.now.datagram) }
+    ensures heard { OnOk result ((start : L) (before : List read_datagrams.ReadDatagramValue) → L.has_heard start before listener.old
+        → L.has_heard start (before ++ read_datagrams.datagram_read samples.now.datagram (map (λ one. one.act) (fragment_walk.piece_acts_of octets.now))
+        (merging.merged_from ForEveryone 0 (map (λ one. one.act) (fragment_walk.piece_acts_of octets.now)) (map told_samples.told_value samples.now.overheard.now)) ∷ []) listener.new) }
+    ensures index { OnOk result ((intake : intake_spec.Intake) (all : List told_samples.SentValue) → whole_spec.AreWholeIn all samples.now.whole.now
+        → samples.now.datagram ≡ length intake.announcing + 1 → announcements.IsIndexedBy intake reading.old.indexed
+        → announcements.IsIndexedBy (intake_spec.intake_more intake (whole_spec.tally_left all octets.now) (merging.merged_from ForAudience 0 (map (λ one. one.act) (fragment_walk.piece_acts_of octets.now)) (map told_samples.told_value samples.now.told.now))
+        (merging.merged_from ForEveryone 0 (map (λ one. one.act) (fragment_walk.piece_acts_of octets.now)) (map told_samples.told_value samples.now.overheard.now))) reading.new.indexed) }
 {
     reading.walk.read(octets)?;
     let tally = samples.whole.tally(&reading.walk);
@@ -146,8 +146,8 @@ fn plain_start<'s, L: Listen>(
     listener: &mut L,
 ) -> Result<PlainStart<'s>, Memory>
     requires { L.has_heard listener.old [] listener.old }
-    ensures start { IfOk result (IsPlainStart source.entry.fragments (map (λ datagram. datagram.now) source.entry.recording.now)) }
-    ensures heard { IfOk result (λ start. L.has_heard listener.old (read_of Skipped (map (λ datagram. datagram.now) (take start.datagrams source.entry.recording.now))) listener.new) }
+    ensures start { IfOk result (recorded_samples.IsPlainStart source.entry.fragments (map (λ datagram. datagram.now) source.entry.recording.now)) }
+    ensures heard { IfOk result (λ start. L.has_heard listener.old (read_datagrams.read_of Skipped (map (λ datagram. datagram.now) (take start.datagrams source.entry.recording.now))) listener.new) }
 {
     let Source {
         recording,
@@ -185,12 +185,12 @@ fn index_behind<'s, L: Listen>(
     samples: &'s Samples,
     listener: &mut L,
 ) -> Result<Indexed<'s>, Memory>
-    requires start { IsPlainStart Read (map (λ datagram. datagram.now) recording.now) start }
-    requires samples { AreSamplesOf (drop start.datagrams (map (λ datagram. datagram.now) recording.now)) samples.now }
-    requires heard { (first : L) × L.has_heard first (read_of Skipped (map (λ datagram. datagram.now) (take start.datagrams recording.now))) listener.old }
-    ensures index { IfOk result (IsIndexedBy (intake_with (map (λ datagram. datagram.now) recording.now))) }
-    ensures heard { OnOk result ((first : L) → L.has_heard first (read_of Skipped (map (λ datagram. datagram.now) (take start.entry.datagrams recording.now))) listener.old
-        → L.has_heard first (read_of Read (map (λ datagram. datagram.now) recording.now)) listener.new) }
+    requires start { recorded_samples.IsPlainStart Read (map (λ datagram. datagram.now) recording.now) start }
+    requires samples { recorded_samples.AreSamplesOf (drop start.datagrams (map (λ datagram. datagram.now) recording.now)) samples.now }
+    requires heard { (first : L) × L.has_heard first (read_datagrams.read_of Skipped (map (λ datagram. datagram.now) (take start.datagrams recording.now))) listener.old }
+    ensures index { IfOk result (announcements.IsIndexedBy (recorded_samples.intake_with (map (λ datagram. datagram.now) recording.now))) }
+    ensures heard { OnOk result ((first : L) → L.has_heard first (read_datagrams.read_of Skipped (map (λ datagram. datagram.now) (take start.entry.datagrams recording.now))) listener.old
+        → L.has_heard first (read_datagrams.read_of Read (map (λ datagram. datagram.now) recording.now)) listener.new) }
 {
     let PlainStart {
         mut reading,
@@ -221,8 +221,8 @@ pub fn index_told<'s, L: Listen>(
     listener: &mut L,
 ) -> Result<Indexed<'s>, Memory>
     requires { L.has_heard listener.old [] listener.old }
-    ensures index { IfOk result (IsIndexedBy (intake_as source.entry.fragments (map (λ datagram. datagram.now) source.entry.recording.now))) }
-    ensures heard { OnOk result (L.has_heard listener.old (read_of source.entry.fragments (map (λ datagram. datagram.now) source.entry.recording.now)) listener.new) }
+    ensures index { IfOk result (announcements.IsIndexedBy (recorded_samples.intake_as source.entry.fragments (map (λ datagram. datagram.now) source.entry.recording.now))) }
+    ensures heard { OnOk result (L.has_heard listener.old (read_datagrams.read_of source.entry.fragments (map (λ datagram. datagram.now) source.entry.recording.now)) listener.new) }
 {
     let recording = source.recording;
     let start = plain_start(alloc, source, listener)?;
@@ -242,7 +242,7 @@ pub fn index_as<'s>(
     fragments: Fragments,
     samples: &'s mut Samples,
 ) -> Result<Indexed<'s>, Memory>
-    ensures { IfOk result (IsIndexedBy (intake_as fragments (map (λ datagram. datagram.now) recording.now))) }
+    ensures { IfOk result (announcements.IsIndexedBy (recorded_samples.intake_as fragments (map (λ datagram. datagram.now) recording.now))) }
 {
     let source = Source {
         recording,
@@ -255,8 +255,8 @@ pub fn index_as<'s>(
 /// `from` on. The verdict is that by all runs in which the reader takes fragments one by one. `Memory` is answered where what is
 /// kept of that cannot grow.
 pub fn judge_with_samples(index: &Index<'_>, pair: Pair, from: SeqNum) -> Result<Verdict, Memory>
-    ensures { (recording : List (List ℕ)) → IsIndexBy (intake_with recording) index.now
-        → IfOk result (IsFragmentVerdictFrom from (fragment_speech_of pair.writer pair.reader (sending_of recording))) }
+    ensures { (recording : List (List ℕ)) → index_spec.IsIndexBy (recorded_samples.intake_with recording) index.now
+        → IfOk result (fragment_verdict.IsFragmentVerdictFrom from (sample_acts.fragment_speech_of pair.writer pair.reader (fragment_walk.sending_of recording))) }
 {
     recorded_verdict_is_of_runs();
     index.judge_from(pair, from)

@@ -1,6 +1,6 @@
 ghost use Rattle.std.specs.Prelude.{◌≡◌, ◌++◌, ◌∷◌, [], map, IfOk, OnOk};
-ghost use Rattle.rtps_fragments.specs.RecordedSamples.{AreSamplesOf};
-ghost use Rattle.rtps_fragments.specs.ToldSamples.{told_value};
+ghost use Rattle.rtps_fragments.specs.RecordedSamples as recorded_samples;
+ghost use Rattle.rtps_fragments.specs.ToldSamples as told_samples;
 
 use crate::fragment_walk::FragmentWalk;
 use crate::making::{Makings, Told};
@@ -22,7 +22,7 @@ pub struct Samples {
 impl Samples {
     /// No samples. It takes no memory.
     pub fn none(alloc: Global) -> Samples
-        ensures { AreSamplesOf [] result }
+        ensures { recorded_samples.AreSamplesOf [] result }
     {
         Samples {
             told: Vec::new(alloc),
@@ -33,10 +33,10 @@ impl Samples {
 
     /// Adds those of one datagram more. After `Memory` it is of no use.
     fn add(&mut self, told: Told) -> Result<(), Memory>
-        ensures told { OnOk result (map (λ told. map told_value told.items) self.new.told.items
-            ≡ map (λ told. map told_value told.items) self.old.told.items ++ map told_value told.heard.items ∷ []) }
-        ensures overheard { OnOk result (map (λ told. map told_value told.items) self.new.overheard.items
-            ≡ map (λ told. map told_value told.items) self.old.overheard.items ++ map told_value told.overheard.items ∷ []) }
+        ensures told { OnOk result (map (λ told. map told_samples.told_value told.items) self.new.told.items
+            ≡ map (λ told. map told_samples.told_value told.items) self.old.told.items ++ map told_samples.told_value told.heard.items ∷ []) }
+        ensures overheard { OnOk result (map (λ told. map told_samples.told_value told.items) self.new.overheard.items
+            ≡ map (λ told. map told_samples.told_value told.items) self.old.overheard.items ++ map told_samples.told_value told.overheard.items ∷ []) }
     {
         let Told { heard, overheard } = told;
         self.told.push(heard)?;
@@ -47,7 +47,7 @@ impl Samples {
     /// Puts the samples of a recording together, any datagrams in the order of sending. The octets of each are read once.
     /// `Memory` is answered where there is none for them.
     pub fn of(alloc: Global, recording: &[&[u8]]) -> Result<Samples, Memory>
-        ensures { IfOk result (AreSamplesOf (map (λ datagram. datagram.now) recording.now)) }
+        ensures { IfOk result (recorded_samples.AreSamplesOf (map (λ datagram. datagram.now) recording.now)) }
     {
         let mut samples = Samples::none(alloc);
         let mut makings = Makings::new(alloc);

@@ -1,6 +1,5 @@
 ghost use Rattle.std.specs.Prelude.{◌≡◌, ◌≤◌, ◌<◌, ◌+◌, ◌^◌, [], length, List, map};
-ghost use Rattle.rtps_fragments.specs.ToldSamples.{SentValue, sent_value};
-ghost use Rattle.rtps_fragments.specs.Whole.{AreWholeIn, AreWholeOf, tally_with_fragments};
+ghost use Rattle.rtps_fragments.specs.ToldSamples as told_samples;
 ghost use Rattle.rtps_fragments.specs.Whole as whole;
 
 use crate::fragment_walk::FragmentWalk;
@@ -36,7 +35,7 @@ pub(crate) fn key_number(key: &SampleKey) -> SampleNumber
 impl WholeNumbers {
     /// No numbers. It takes no memory.
     pub(crate) fn none(alloc: Global) -> WholeNumbers
-        ensures { AreWholeOf [] result }
+        ensures { whole.AreWholeOf [] result }
     {
         WholeNumbers {
             numbers: BTreeSet::new(alloc),
@@ -46,8 +45,8 @@ impl WholeNumbers {
     /// The tally of a datagram that sends this. Its fragments are the DATA_FRAG of no sample.
     pub(crate) fn tally(&self, walk: &FragmentWalk<'_>) -> Tally
         requires { walk.now.unusable + length walk.now.sents.items < 2 ^ 64 }
-        ensures { (all : List SentValue) → AreWholeIn all self.now
-            → result ≡ tally_with_fragments walk.now.plain (walk.now.unusable + whole.left_among all (map sent_value walk.now.sents.items)) }
+        ensures { (all : List told_samples.SentValue) → whole.AreWholeIn all self.now
+            → result ≡ whole.tally_with_fragments walk.now.plain (walk.now.unusable + whole.left_among all (map told_samples.sent_value walk.now.sents.items)) }
     {
         Tally {
             refused: walk.plain.refused,
@@ -59,7 +58,7 @@ impl WholeNumbers {
     /// How many of these fragments that acts send are of a number of which no sample can be put together.
     pub(crate) fn left_among(&self, sents: &[SentFragments<'_>]) -> u64
         ensures few { result ≤ length sents.now }
-        ensures left { (all : List SentValue) → AreWholeIn all self.now → result ≡ whole.left_among all (map sent_value sents.now) }
+        ensures left { (all : List told_samples.SentValue) → whole.AreWholeIn all self.now → result ≡ whole.left_among all (map told_samples.sent_value sents.now) }
     {
         let mut left = 0;
         for sent in sents {

@@ -8,8 +8,8 @@ use Rattle.std.proofs.lemmas.Bool.{cases_lt}
 use Rattle.std.proofs.lemmas.Nat.{leading_top}
 use Rattle.std.proofs.lemmas.Nat.Bits.{bit_at-zero, bit_at_above, bit_at_cat_high, bit_at_cat_low}
 use Rattle.std.proofs.lemmas.Int.{ints}
-use Rattle.rtps_ids.specs.NumberSet.{NumberSetValue, bit_of}
-use Rattle.rtps_ids.specs.Ranges.{IsRangeFrom}
+use Rattle.rtps_ids.specs.NumberSet as number_set
+use Rattle.rtps_ids.specs.Ranges as ranges
 
 -- the low bits are those of the word
 low_bit : (word p i : ℕ) → i < p → bit_at word i ≡ bit_at (word % 2 ^ p) i
@@ -77,10 +77,10 @@ unlike : (a b : ℕ) → a ≡ 1 → a ≡ 0 → ⊥
 unlike a b one none = absurd (omega arith)
 
 -- where the numbers from `from` on stand for the bits from start on
-pub range_at : (set : NumberSetValue) (from start first next past : ℕ) → set.count < 257 → start ≡ from - set.base
-    → start ≤ first → first < set.count → bit_of set.words first ≡ 1 → ((i : ℕ) → start ≤ i → i < first → bit_of set.words i ≡ 0)
-    → first ≤ next → (next < 256 → bit_of set.words next ≡ 0) → ((i : ℕ) → first ≤ i → i < next → bit_of set.words i ≡ 1)
-    → past ≡ min next set.count → IsRangeFrom set from (set.base + first) (set.base + past)
+pub range_at : (set : number_set.NumberSetValue) (from start first next past : ℕ) → set.count < 257 → start ≡ from - set.base
+    → start ≤ first → first < set.count → number_set.bit_of set.words first ≡ 1 → ((i : ℕ) → start ≤ i → i < first → number_set.bit_of set.words i ≡ 0)
+    → first ≤ next → (next < 256 → number_set.bit_of set.words next ≡ 0) → ((i : ℕ) → first ≤ i → i < next → number_set.bit_of set.words i ≡ 1)
+    → past ≡ min next set.count → ranges.IsRangeFrom set from (set.base + first) (set.base + past)
 range_at set from start first next past few starts onward kept one before after none between ends =
     record {
       onward = omega arith;
@@ -88,7 +88,7 @@ range_at set from start first next past few starts onward kept one before after 
         | inl lt ↦ omega arith
         | inr ge ↦
             let same : next ≡ first = omega arith in
-            absurd (unlike _ 0 one (subst (λ i. bit_of set.words i ≡ 0) same (none (omega arith))))
+            absurd (unlike _ 0 one (subst (λ i. number_set.bit_of set.words i ≡ 0) same (none (omega arith))))
       ];
       before = λ n le lt member.
           let same : n ≡ set.base + member.bit = let e = member.number in omega (arith, ints) in
@@ -105,5 +105,5 @@ range_at set from start first next past few starts onward kept one before after 
           let same : set.base + past ≡ set.base + member.bit = let e = member.number in omega (arith, ints) in
           let bit : next ≡ member.bit = let f = member.in_count in omega arith in
           let lt : next < 256 = let f = member.in_count in omega arith in
-          unlike _ 0 member.is_set (subst (λ i. bit_of set.words i ≡ 0) bit (none lt));
+          unlike _ 0 member.is_set (subst (λ i. number_set.bit_of set.words i ≡ 0) bit (none lt));
     }

@@ -4,11 +4,10 @@ use Rattle.std.specs.Prelude.{ℕ, ℤ, pos, ◌+◌, ◌-◌, ◌*◌, ◌/◌,
 use Rattle.std.specs.Int.{bit_at}
 use Rattle.std.specs.Int.RustNames.{unsigned_abs}
 use Rattle.std.specs.List.{range_with_len}
-use Rattle.rtps_ids.specs.Octets.{number_of, sequence_number_of}
-use Rattle.rtps_ids.specs.declared.layout.set.TheConstants.{COUNT, MOST_BITS, WORDS, WORD_BITS, WORD_SIZE}
+use Rattle.rtps_ids.specs.Octets as octets_spec
+use Rattle.rtps_ids.specs.declared.layout.set.TheConstants as set
 use Rattle.rtps_ids.specs.declared.order.Order.{Order}
 use Rattle.rtps_ids.specs.declared.set_fault.SetFault.{SetFault}
-use Rattle.rtps_ids.specs.declared.set_fault.SetFault.TheVariants.{BadSet, CutWords}
 
 -- a set as the code keeps it: the base, how many bits it has, and eight words in which no later bit is set
 pub record NumberSetValue : Type 0 where
@@ -18,7 +17,7 @@ pub record NumberSetValue : Type 0 where
 
 -- bit i of the words, counted from the highest bit of the first word
 abbrev pub bit_of : List ℕ → ℕ → ℕ
-bit_of words i = bit_at (slice_index words (i / WORD_BITS)) (WORD_BITS - 1 - i % WORD_BITS)
+bit_of words i = bit_at (slice_index words (i / set.WORD_BITS)) (set.WORD_BITS - 1 - i % set.WORD_BITS)
 
 -- n is base + i for a bit i that is set
 pub record IsMember (set : NumberSetValue) (n : ℤ) : Type 0 where
@@ -33,11 +32,11 @@ is_member set n = nat_le set.base n && (nat_lt (n - set.base) set.count && (bit_
 
 -- how many of the bits of word i stand for a number
 abbrev pub kept_bits : ℕ → ℕ → ℕ
-kept_bits count i = min WORD_BITS (count - WORD_BITS * i)
+kept_bits count i = min set.WORD_BITS (count - set.WORD_BITS * i)
 
 -- word i without the bits that stand for no number (own: such bits are ignored, so they are cleared)
 abbrev pub cleared : ℕ → ℕ → ℕ → ℕ
-cleared count word i = if nat_lt (WORD_BITS * i) count then word / 2 ^ (WORD_BITS - kept_bits count i) * 2 ^ (WORD_BITS - kept_bits count i) else 0
+cleared count word i = if nat_lt (set.WORD_BITS * i) count then word / 2 ^ (set.WORD_BITS - kept_bits count i) * 2 ^ (set.WORD_BITS - kept_bits count i) else 0
 
 -- the eight words that `word` gives, without the bits that stand for no number
 unfoldable pub cleared_words : ℕ → (ℕ → ℕ) → List ℕ
@@ -48,35 +47,35 @@ cleared_words count word = map (λ i. cleared count (word i) i) (range_with_len 
 -- own: base 0 without bits is a set, since readers send it before they have received anything.
 unfoldable pub is_bad : ℤ → ℕ → Bool
 is_bad base count =
-    int_lt base (pos 0) || nat_lt MOST_BITS count || (int_lt base (pos 1) && nat_lt 0 count)
+    int_lt base (pos 0) || nat_lt set.MOST_BITS count || (int_lt base (pos 1) && nat_lt 0 count)
     || (int_lt (pos 0) base && int_lt (pos (2 ^ 63)) (base +ℤ pos count))
 
 -- the base, at the beginning of octets that spell a set
 abbrev pub spelled_base : Order → List ℕ → ℤ
-spelled_base order octets = sequence_number_of order octets
+spelled_base order octets = octets_spec.sequence_number_of order octets
 
 -- the count, after the base
 abbrev pub spelled_count : Order → List ℕ → ℕ
-spelled_count order octets = number_of order 4 (drop COUNT octets)
+spelled_count order octets = octets_spec.number_of order 4 (drop set.COUNT octets)
 
 -- word i
 abbrev pub spelled_word : Order → List ℕ → ℕ → ℕ
-spelled_word order octets i = number_of order 4 (drop (WORDS + WORD_SIZE * i) octets)
+spelled_word order octets i = octets_spec.number_of order 4 (drop (set.WORDS + set.WORD_SIZE * i) octets)
 
 -- how many words a set of `count` bits has
 abbrev pub words_of_count : ℕ → ℕ
-words_of_count count = (count + (WORD_BITS - 1)) / WORD_BITS
+words_of_count count = (count + (set.WORD_BITS - 1)) / set.WORD_BITS
 
 -- how many octets a set of `count` bits takes: the base, the count and the words
 abbrev pub octets_of_count : ℕ → ℕ
-octets_of_count count = WORDS + WORD_SIZE * words_of_count count
+octets_of_count count = set.WORDS + set.WORD_SIZE * words_of_count count
 
 -- why octets begin with no set: they end before the count does, else the set is bad, else they end before its words do
 unfoldable pub set_fault : Order → List ℕ → Option SetFault
 set_fault order octets =
-    if nat_lt (length octets) WORDS then Some CutWords
-    else if is_bad (spelled_base order octets) (spelled_count order octets) then Some BadSet
-    else if nat_lt (length octets) (octets_of_count (spelled_count order octets)) then Some CutWords
+    if nat_lt (length octets) set.WORDS then Some SetFault.CutWords
+    else if is_bad (spelled_base order octets) (spelled_count order octets) then Some SetFault.BadSet
+    else if nat_lt (length octets) (octets_of_count (spelled_count order octets)) then Some SetFault.CutWords
     else None
 
 -- the set that octets without a fault spell at their beginning

@@ -4,13 +4,12 @@ use Rattle.std.specs.Prelude.{ℕ, ◌+◌, ◌*◌, ◌/◌, ◌%◌, ◌^◌, 
 use Rattle.std.specs.Int.{cast_unsigned, w64}
 use Rattle.byteorder.specs.Endian.{big_bytes, big_number, little_bytes, little_number, twos_complement}
 use Rattle.rtps_ids.specs.declared.order.Order.{Order}
-use Rattle.rtps_ids.specs.declared.order.Order.TheVariants.{Big, Little}
 
 -- the number that the first `width` octets spell: the sum of octet i times 256 to the power of width - 1 - i for Big,
 -- and of octet i times 256 to the power of i for Little
 unfoldable pub number_of : Order → ℕ → List ℕ → ℕ
-number_of Big width octets = big_number width octets
-number_of Little width octets = little_number width octets
+number_of Order.Big width octets = big_number width octets
+number_of Order.Little width octets = little_number width octets
 
 -- the sequence number that the first eight octets spell: a signed high part of four octets, and then an unsigned low
 -- part of four, in either order (9.3.2, "SequenceNumber_t")
@@ -24,8 +23,8 @@ read_at value width octets at = if nat_le (at + width) (length octets) then Some
 -- the `width` octets of a number: octet i is the number divided by 256 to the power of width - 1 - i for Big, and by
 -- 256 to the power of i for Little, modulo 256
 unfoldable pub octets_of : Order → ℕ → ℕ → List ℕ
-octets_of Big width value = big_bytes width value
-octets_of Little width value = little_bytes width value
+octets_of Order.Big width value = big_bytes width value
+octets_of Order.Little width value = little_bytes width value
 
 -- the eight octets of a sequence number in two's complement: its high 32 bits, and then its low 32 bits, each in this
 -- order (9.3.2, "SequenceNumber_t")

@@ -1,7 +1,7 @@
 ghost use Rattle.std.specs.Prelude.{ℕ, ◌≡◌, ◌≤◌, ◌<◌, ◌-◌, length};
 ghost use Rattle.std.specs.Int.{bit_at};
-ghost use Rattle.rtps_ids.specs.NumberSet.{bit_of};
-ghost use Rattle.rtps_ids.specs.Ranges.{wanted_bit};
+ghost use Rattle.rtps_ids.specs.NumberSet as number_set;
+ghost use Rattle.rtps_ids.specs.Ranges as ranges;
 ghost use Rattle.rtps_ids.specs.declared.layout.set.TheConstants.{MOST_BITS, WORD_BITS};
 
 use crate::layout::set;
@@ -24,8 +24,8 @@ fn first_in_word(word: u32, from: u32, wanted: bool) -> u32
     requires { from < WORD_BITS }
     ensures onward { from ≤ result }
     ensures within { result ≤ WORD_BITS }
-    ensures found { result < WORD_BITS → bit_at word (WORD_BITS - 1 - result) ≡ wanted_bit wanted }
-    ensures passed { (i : ℕ) → from ≤ i → i < result → bit_at word (WORD_BITS - 1 - i) ≡ 1 - wanted_bit wanted }
+    ensures found { result < WORD_BITS → bit_at word (WORD_BITS - 1 - result) ≡ ranges.wanted_bit wanted }
+    ensures passed { (i : ℕ) → from ≤ i → i < result → bit_at word (WORD_BITS - 1 - i) ≡ 1 - ranges.wanted_bit wanted }
 {
     if wanted {
         first_one(word, from)
@@ -41,8 +41,8 @@ pub(crate) fn first_bit(words: &[u32], from: usize, wanted: bool) -> usize
     requires from { from ≤ MOST_BITS }
     ensures onward { from ≤ result }
     ensures within { result ≤ MOST_BITS }
-    ensures found { result < MOST_BITS → bit_of words.now result ≡ wanted_bit wanted }
-    ensures passed { (i : ℕ) → from ≤ i → i < result → bit_of words.now i ≡ 1 - wanted_bit wanted }
+    ensures found { result < MOST_BITS → number_set.bit_of words.now result ≡ ranges.wanted_bit wanted }
+    ensures passed { (i : ℕ) → from ≤ i → i < result → number_set.bit_of words.now i ≡ 1 - ranges.wanted_bit wanted }
 {
     let in_word = set::WORD_BITS as usize;
     let mut bit = from;

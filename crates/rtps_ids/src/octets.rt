@@ -1,5 +1,5 @@
 ghost use Rattle.std.specs.Prelude.{◌≡◌, ◌≤◌, ◌<◌, ◌+◌, ◌++◌, drop, length, vec_capacity, vec_len, OnOk, OnErr};
-ghost use Rattle.rtps_ids.specs.Octets.{number_of, octets_of, read_at, sequence_number_octets, sequence_number_of};
+ghost use Rattle.rtps_ids.specs.Octets as octets_spec;
 
 use crate::memory::Memory;
 use crate::order::Order;
@@ -9,7 +9,7 @@ use byteorder::{BigEndian, ByteOrder, LittleEndian};
 #[tactic(auto, unfolding(crate::specs::Octets::number_of))]
 #[inline]
 pub fn u16_at(order: Order, bytes: &[u8], at: usize) -> Option<u16>
-    ensures { result ≡ read_at (number_of order 2) 2 bytes.now at }
+    ensures { result ≡ octets_spec.read_at (octets_spec.number_of order 2) 2 bytes.now at }
 {
     let field = bytes.get(at..)?;
     if field.len() < 2 {
@@ -25,7 +25,7 @@ pub fn u16_at(order: Order, bytes: &[u8], at: usize) -> Option<u16>
 #[tactic(auto, unfolding(crate::specs::Octets::number_of))]
 #[inline]
 pub fn u32_at(order: Order, bytes: &[u8], at: usize) -> Option<u32>
-    ensures { result ≡ read_at (number_of order 4) 4 bytes.now at }
+    ensures { result ≡ octets_spec.read_at (octets_spec.number_of order 4) 4 bytes.now at }
 {
     let field = bytes.get(at..)?;
     if field.len() < 4 {
@@ -42,7 +42,7 @@ pub fn u32_at(order: Order, bytes: &[u8], at: usize) -> Option<u32>
 #[tactic(auto, unfolding(crate::specs::Octets::number_of, crate::specs::Octets::sequence_number_of))]
 #[inline]
 pub fn number_at(order: Order, bytes: &[u8], at: usize) -> Option<i64>
-    ensures { result ≡ read_at (sequence_number_of order) 8 bytes.now at }
+    ensures { result ≡ octets_spec.read_at (octets_spec.sequence_number_of order) 8 bytes.now at }
 {
     let field = bytes.get(at..)?;
     if field.len() < 8 {
@@ -57,7 +57,7 @@ pub fn number_at(order: Order, bytes: &[u8], at: usize) -> Option<i64>
 /// had.
 #[tactic(auto, unfolding(crate::specs::Octets::octets_of))]
 pub fn put_u16(order: Order, value: u16, out: &mut Vec<u8>) -> Result<(), Memory>
-    ensures ok { OnOk result (out.new.items ≡ out.old.items ++ octets_of order 2 value) }
+    ensures ok { OnOk result (out.new.items ≡ out.old.items ++ octets_spec.octets_of order 2 value) }
     ensures err { OnErr result (out.new.items ≡ out.old.items) }
     ensures full { OnErr result (vec_capacity out.old < vec_len out.old + 2) }
     ensures room { vec_capacity out.old ≤ vec_capacity out.new }
@@ -74,7 +74,7 @@ pub fn put_u16(order: Order, value: u16, out: &mut Vec<u8>) -> Result<(), Memory
 /// Appends the four octets of a number. It returns `Memory` only if `out` has no room for them; then `out` keeps what
 /// it had.
 pub fn put_u32(order: Order, value: u32, out: &mut Vec<u8>) -> Result<(), Memory>
-    ensures ok { OnOk result (out.new.items ≡ out.old.items ++ octets_of order 4 value) }
+    ensures ok { OnOk result (out.new.items ≡ out.old.items ++ octets_spec.octets_of order 4 value) }
     ensures err { OnErr result (out.new.items ≡ out.old.items) }
     ensures full { OnErr result (vec_capacity out.old < vec_len out.old + 4) }
     ensures room { vec_capacity out.old ≤ vec_capacity out.new }
@@ -88,7 +88,7 @@ pub fn put_u32(order: Order, value: u32, out: &mut Vec<u8>) -> Result<(), Memory
 /// Appends the eight octets of a sequence number. Its high part has a sign and comes first; its low part has none. It
 /// returns `Memory` only if `out` has no room for them; then `out` keeps what it had.
 pub fn put_number(order: Order, value: i64, out: &mut Vec<u8>) -> Result<(), Memory>
-    ensures ok { OnOk result (out.new.items ≡ out.old.items ++ sequence_number_octets order value) }
+    ensures ok { OnOk result (out.new.items ≡ out.old.items ++ octets_spec.sequence_number_octets order value) }
     ensures err { OnErr result (out.new.items ≡ out.old.items) }
     ensures full { OnErr result (vec_capacity out.old < vec_len out.old + 8) }
     ensures room { vec_capacity out.old ≤ vec_capacity out.new }
@@ -105,7 +105,7 @@ pub fn put_number(order: Order, value: i64, out: &mut Vec<u8>) -> Result<(), Mem
 #[tactic(auto, unfolding(crate::specs::Octets::octets_of))]
 fn write_u32(order: Order, value: u32, octets: &mut [u8])
     requires { 4 ≤ length octets.old }
-    ensures { octets.new ≡ octets_of order 4 value ++ drop 4 octets.old }
+    ensures { octets.new ≡ octets_spec.octets_of order 4 value ++ drop 4 octets.old }
 {
     match order {
         Order::Big => BigEndian::write_u32(octets, value),

@@ -1,7 +1,6 @@
 ghost use Rattle.std.specs.Prelude.{◌≡◌, ◌<◌, ◌≤◌, ◌^◌, ◌/◌, length, ◌↔◌, ◌<ℤ◌, ℤ, pos, true, false, None, Some, All, IsTrue, IfSome, MatchOption, MatchResult, slice_index};
-ghost use Rattle.rtps_ids.specs.NumberSet.{IsKeptSet, IsMember, cleared_words, bit_of, octets_of_count, set_fault, spelled_set, spelled_word};
 ghost use Rattle.rtps_ids.specs.NumberSet as number_set;
-ghost use Rattle.rtps_ids.specs.Ranges.{IsRangeFrom, HasNoneFrom};
+ghost use Rattle.rtps_ids.specs.Ranges as ranges;
 ghost use Rattle.rtps_ids.specs.declared.layout.set.TheConstants.{WORD_BITS};
 
 use crate::bits::first_bit;
@@ -22,13 +21,13 @@ pub struct NumberSet {
 }
 
 impl Model for NumberSet {
-    ghost use Rattle.rtps_ids.specs.NumberSet.{NumberSetValue, IsKeptSet};
+    ghost use Rattle.rtps_ids.specs.NumberSet as number_set;
 
-    ghost Value = { NumberSetValue };
+    ghost Value = { number_set.NumberSetValue };
 
     ghost view = { λ s. record { base = s.base; count = s.count; words = s.words } };
 
-    ghost invariant = { λ s. IsKeptSet (record { base = s.base; count = s.count; words = s.words }) };
+    ghost invariant = { λ s. number_set.IsKeptSet (record { base = s.base; count = s.count; words = s.words }) };
 
     ghost inverse = { λ v. record { base = v.base; count = v.count; words = v.words } };
 }
@@ -41,7 +40,7 @@ impl NumberSet {
         ensures exists { MatchOption result (number_set.is_bad base count ≡ true) (λ set. number_set.is_bad base count ≡ false) }
         ensures base { IfSome result (λ set. pos set.base ≡ base) }
         ensures count { IfSome result (λ set. set.count ≡ count) }
-        ensures words { IfSome result (λ set. set.words ≡ cleared_words count (λ i. slice_index words i)) }
+        ensures words { IfSome result (λ set. set.words ≡ number_set.cleared_words count (λ i. slice_index words i)) }
     {
         if is_bad(base, count) {
             return None;
@@ -59,8 +58,8 @@ impl NumberSet {
     #[tactic(auto, unfolding(crate::specs::NumberSet::set_fault))]
     pub fn read(order: Order, bytes: &[u8]) -> Result<(NumberSet, usize), SetFault>
         ensures { MatchResult result
-            (λ found. (set_fault order bytes.now ≡ None) × (found.0 ≡ spelled_set order bytes.now) × (found.1 ≡ octets_of_count found.0.count))
-            (λ fault. set_fault order bytes.now ≡ Some fault) }
+            (λ found. (number_set.set_fault order bytes.now ≡ None) × (found.0 ≡ number_set.spelled_set order bytes.now) × (found.1 ≡ number_set.octets_of_count found.0.count))
+            (λ fault. number_set.set_fault order bytes.now ≡ Some fault) }
     {
         let (Some(base), Some(count)) = (
             number_at(order, bytes, 0),
@@ -90,7 +89,7 @@ impl NumberSet {
     pub fn count(&self) -> u32
         ensures count { result ≡ self.now.count }
         // What is true of every set.
-        ensures kept { IsKeptSet self.now }
+        ensures kept { number_set.IsKeptSet self.now }
         ensures words { All (λ word. word < 2 ^ 32) self.now.words }
     {
         words_fit(self.words);
@@ -106,8 +105,8 @@ impl NumberSet {
 
     /// Whether this number is in the set. Only numbers from 1 to 2^63 - 1 can be.
     pub fn contains(&self, n: i64) -> bool
-        ensures member { IsTrue result ↔ IsMember self.now n }
-        ensures range { (number : ℤ) → IsMember self.now number → (pos 0 <ℤ number) × (number <ℤ pos (2 ^ 63)) }
+        ensures member { IsTrue result ↔ number_set.IsMember self.now n }
+        ensures range { (number : ℤ) → number_set.IsMember self.now number → (pos 0 <ℤ number) × (number <ℤ pos (2 ^ 63)) }
     {
         let n = n.cast_unsigned();
         if n < self.base || n - self.base >= u64::from(self.count) {
@@ -120,7 +119,7 @@ impl NumberSet {
     /// may be 2^63. None if the set has no number from `from` on. To get all ranges, call it again with the end of
     /// each.
     pub fn range_from(&self, from: u64) -> Option<Range<u64>>
-        ensures range { MatchOption result (HasNoneFrom self.now from) (λ range. IsRangeFrom self.now from range.start range.end) }
+        ensures range { MatchOption result (ranges.HasNoneFrom self.now from) (λ range. ranges.IsRangeFrom self.now from range.start range.end) }
         ensures in_range { IfSome result (λ range. (1 ≤ range.start) × (range.end ≤ 2 ^ 63)) }
     {
         let start = from.saturating_sub(self.base);
@@ -146,7 +145,7 @@ fn words_fit(words: [u32; 8])
 /// Whether this bit is set, counted from the highest of the first word.
 fn is_set(words: &[u32], bit: usize) -> bool
     requires { bit / WORD_BITS < length words.now }
-    ensures { IsTrue result ↔ (bit_of words.now bit ≡ 1) }
+    ensures { IsTrue result ↔ (number_set.bit_of words.now bit ≡ 1) }
 {
     let in_word = set::WORD_BITS as usize;
     (words[bit / in_word] >> (in_word - 1 - bit % in_word)) & 1 == 1
@@ -183,7 +182,7 @@ fn cleared(count: u32, word: u32, i: usize) -> u32
 #[tactic(auto, unfolding(crate::specs::NumberSet::is_bad))]
 fn set_of(base: i64, count: u32, words: [u32; 8]) -> NumberSet
     requires good { number_set.is_bad base count ≡ false }
-    requires clear { words ≡ cleared_words count (λ i. slice_index words i) }
+    requires clear { words ≡ number_set.cleared_words count (λ i. slice_index words i) }
     ensures base { pos result.base ≡ base }
     ensures count { result.count ≡ count }
     ensures words { result.words ≡ words }
@@ -198,8 +197,8 @@ fn set_of(base: i64, count: u32, words: [u32; 8]) -> NumberSet
 /// Word `i` of the set at the beginning of the octets, without the bits past the count.
 fn word_at(order: Order, bytes: &[u8], count: u32, i: usize) -> u32
     requires place { i < 8 }
-    requires whole { octets_of_count count ≤ length bytes.now }
-    ensures { result ≡ number_set.cleared count (spelled_word order bytes.now i) i }
+    requires whole { number_set.octets_of_count count ≤ length bytes.now }
+    ensures { result ≡ number_set.cleared count (number_set.spelled_word order bytes.now i) i }
 {
     let Some(word) = u32_at(order, bytes, set::WORDS + set::WORD_SIZE * i) else {
         return 0;
@@ -209,8 +208,8 @@ fn word_at(order: Order, bytes: &[u8], count: u32, i: usize) -> u32
 
 /// The words of a set of `count` bits at the beginning of the octets, without the bits past the count.
 fn read_words(order: Order, bytes: &[u8], count: u32) -> [u32; 8]
-    requires { octets_of_count count ≤ length bytes.now }
-    ensures { result ≡ cleared_words count (λ i. spelled_word order bytes.now i) }
+    requires { number_set.octets_of_count count ≤ length bytes.now }
+    ensures { result ≡ number_set.cleared_words count (λ i. number_set.spelled_word order bytes.now i) }
 {
     let mut words = [0; 8];
     for i in 0..8 {

@@ -1,5 +1,5 @@
 ghost use Rattle.std.specs.Prelude.{◌≡◌, Some};
-ghost use Rattle.rtps_ids.specs.SetFaultText.{fault_name, fault_number};
+ghost use Rattle.rtps_ids.specs.SetFaultText as set_fault_text;
 
 use std::error::Error;
 use std::fmt;
@@ -16,14 +16,14 @@ pub enum SetFault {
 impl SetFault {
     /// Its number, from 1 on.
     pub fn number(self) -> u8
-        ensures { result ≡ fault_number self }
+        ensures { result ≡ set_fault_text.fault_number self }
     {
         self as u8
     }
 }
 
 impl fmt::Display for SetFault {
-    ghost output = { λ fault. Some (fault_name fault) };
+    ghost output = { λ fault. Some (set_fault_text.fault_name fault) };
 
     /// Its name.
     #[tactic(auto, unfolding(crate::specs::SetFaultText::fault_name))]

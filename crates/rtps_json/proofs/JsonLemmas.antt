@@ -12,7 +12,7 @@ use Rattle.json.proofs.Printed.Trees.{value-json_tokens}
 use Rattle.json.specs.Json.{Json, boolean, document, if_last, max_depth, null, string, value}
 use Rattle.json.specs.Lex.{tokens}
 use Rattle.json.specs.Print.{IsNumber, print}
-use Rattle.json.specs.Token.{Token, begin_array, begin_object, end_array, end_object, key}
+use Rattle.json.specs.Token.{begin_array, begin_object, end_array, end_object, key}
 use Rattle.json.specs.Tree.{depth, items_depth, items_tokens, json_tokens, members_depth, members_tokens}
 use Rattle.json.specs.Word.{after_exponent, after_fraction, after_number, after_whole, head}
 use Rattle.rtps_evidence.specs.FirstNumbers as first_numbers
@@ -44,7 +44,6 @@ use Rattle.rtps_lines.specs.Lines as lines
 use Rattle.rtps_evidence.specs.Kinds as kinds
 use Rattle.rtps_evidence.specs.declared.kinds.NumberRange.{NumberRange}
 use Rattle.rtps_json.specs.JsonText as json_text
-use Rattle.rtps_lines.proofs.Offered.{four_parts}
 
 -- ---- tokens
 
@@ -57,68 +56,13 @@ pub whole : (members : List json_text.Member) → members_tokens (json_text.memb
 whole [] = refl
 whole ((name, json) ∷ members) = ap (λ rest. key name ∷ (json_tokens json ++ rest)) (whole members) ∙ sym (append_assoc (key name ∷ json_tokens json) (json_text.tokens_of members) (end_object ∷ []))
 
--- an object of six parts
-pub row_tokens : (a b c d e f : List json_text.Member)
-    → json_tokens (json_text.object_of (a ++ (b ++ (c ++ (d ++ (e ++ f)))))) ≡ begin_object ∷ (json_text.tokens_of a ++ (json_text.tokens_of b ++ (json_text.tokens_of c ++ (json_text.tokens_of d ++ (json_text.tokens_of e ++ (json_text.tokens_of f ++ end_object ∷ []))))))
-row_tokens a b c d e f =
-    ap (λ rest. begin_object ∷ rest)
-    (front a (b ++ (c ++ (d ++ (e ++ f))))
-    ∙ ap (λ rest. json_text.tokens_of a ++ rest) (front b (c ++ (d ++ (e ++ f)))
-    ∙ ap (λ rest. json_text.tokens_of b ++ rest) (front c (d ++ (e ++ f))
-    ∙ ap (λ rest. json_text.tokens_of c ++ rest) (front d (e ++ f) ∙ ap (λ rest. json_text.tokens_of d ++ rest) (front e f ∙ ap (λ rest. json_text.tokens_of e ++ rest) (whole f))))))
-
--- a member and three parts
-pub audit_tokens : (a : json_text.Member) (b c d : List json_text.Member) → json_text.tokens_of (a ∷ (b ++ (c ++ d))) ≡ json_text.tokens_of_member a ++ (json_text.tokens_of b ++ (json_text.tokens_of c ++ json_text.tokens_of d))
-audit_tokens a b c d =
-    ap (λ rest. json_text.tokens_of_member a ++ rest)
-    (flat_map-append json_text.tokens_of_member b (c ++ d) ∙ ap (λ rest. json_text.tokens_of b ++ rest) (flat_map-append json_text.tokens_of_member c d))
-
--- a list of members, a member, and two lists more
-pub spanned_tokens : (a c d : List json_text.Member) (b : json_text.Member) → json_text.tokens_of (a ++ b ∷ (c ++ d)) ≡ json_text.tokens_of a ++ (json_text.tokens_of_member b ++ (json_text.tokens_of c ++ json_text.tokens_of d))
-spanned_tokens a c d b =
-    flat_map-append json_text.tokens_of_member a (b ∷ (c ++ d)) ∙ ap (λ rest. json_text.tokens_of a ++ (json_text.tokens_of_member b ++ rest)) (flat_map-append json_text.tokens_of_member c d)
-
 -- three lists of members
 pub tokens_of_three : (a b c : List json_text.Member) → json_text.tokens_of (a ++ (b ++ c)) ≡ json_text.tokens_of a ++ (json_text.tokens_of b ++ json_text.tokens_of c)
 tokens_of_three a b c = flat_map-append json_text.tokens_of_member a (b ++ c) ∙ ap (λ rest. json_text.tokens_of a ++ rest) (flat_map-append json_text.tokens_of_member b c)
 
--- three members, and a list of members behind each
-pub span_tokens : (a c e : json_text.Member) (b d f : List json_text.Member)
-    → json_text.tokens_of (a ∷ (b ++ (c ∷ (d ++ (e ∷ f)))))
-    ≡ json_text.tokens_of_member a ++ (json_text.tokens_of b ++ (json_text.tokens_of_member c ++ (json_text.tokens_of d ++ (json_text.tokens_of_member e ++ json_text.tokens_of f))))
-span_tokens a c e b d f =
-    ap (λ rest. json_text.tokens_of_member a ++ rest)
-    (flat_map-append json_text.tokens_of_member b (c ∷ (d ++ (e ∷ f)))
-    ∙ ap (λ rest. json_text.tokens_of b ++ (json_text.tokens_of_member c ++ rest)) (flat_map-append json_text.tokens_of_member d (e ∷ f)))
-
 -- an object
 pub object_tokens : (members : List json_text.Member) → json_tokens (json_text.object_of members) ≡ begin_object ∷ (json_text.tokens_of members ++ end_object ∷ [])
 object_tokens members = ap (λ rest. begin_object ∷ rest) (whole members)
-
--- four lists of members
-pub tokens_of_four : (a b c d : List json_text.Member) → json_text.tokens_of a ++ (json_text.tokens_of b ++ (json_text.tokens_of c ++ json_text.tokens_of d)) ≡ json_text.tokens_of (a ++ (b ++ (c ++ d)))
-tokens_of_four a b c d =
-    ap (λ rest. json_text.tokens_of a ++ (json_text.tokens_of b ++ rest)) (sym (flat_map-append json_text.tokens_of_member c d))
-    ∙ ap (λ rest. json_text.tokens_of a ++ rest) (sym (flat_map-append json_text.tokens_of_member b (c ++ d)))
-    ∙ sym (flat_map-append json_text.tokens_of_member a (b ++ (c ++ d)))
-
--- members that stand only where there are times: the first one by itself
-pub timed_front : (times : times_spec.TimesValue) (a : json_text.Member) (others : List json_text.Member)
-    → json_text.tokens_of (json_text.timed_members times (a ∷ [])) ++ json_text.tokens_of (json_text.timed_members times others) ≡ json_text.tokens_of (json_text.timed_members times (a ∷ others))
-timed_front times a others = go (times_spec.are_there times.of_datagrams)
-  where
-    go : (timed : Bool) → json_text.tokens_of (if timed then a ∷ [] else []) ++ json_text.tokens_of (if timed then others else []) ≡ json_text.tokens_of (if timed then a ∷ others else [])
-    go true = ap (λ first. first ++ json_text.tokens_of others) (append-nil (json_text.tokens_of_member a))
-    go false = refl
-
-none_timed : (timed : Bool) → json_text.tokens_of (if timed then [] else []) ≡ []
-none_timed true = refl
-none_timed false = refl
-
--- each by itself
-pub timed_each : (times : times_spec.TimesValue) (members : List json_text.Member) → flat_map (λ a. json_text.tokens_of (json_text.timed_members times (a ∷ []))) members ≡ json_text.tokens_of (json_text.timed_members times members)
-timed_each times [] = sym (none_timed (times_spec.are_there times.of_datagrams))
-timed_each times (a ∷ others) = ap (λ rest. json_text.tokens_of (json_text.timed_members times (a ∷ [])) ++ rest) (timed_each times others) ∙ timed_front times a others
 
 -- times with frames, or without them
 abbrev times_with : Bool → times_spec.TimesValue → times_spec.TimesValue
@@ -132,13 +76,6 @@ clock_told telling framed mine times flag same = (λ i. times_with (flag i) (sam
     by_case : (one : Option Telling) → times_with (is_some one) times ≡ json_text.times_told (option_map json_text.telling_value one) times
     by_case None = refl
     by_case (Some one) = refl
-
--- an object that is written in two parts
-pub object_written : {one two three four : List Token} (start : List Token) (a b : List json_text.Member)
-    → one ≡ start ++ begin_object ∷ [] → two ≡ one ++ json_text.tokens_of a → three ≡ two ++ json_text.tokens_of b → four ≡ three ++ end_object ∷ [] → four ≡ start ++ json_tokens (json_text.object_of (a ++ b))
-object_written start a b first second third fourth =
-    four_parts start (begin_object ∷ []) (json_text.tokens_of a) (json_text.tokens_of b) (end_object ∷ []) first second third fourth
-    ∙ ap (λ tokens. start ++ begin_object ∷ tokens) (ap (λ rest. json_text.tokens_of a ++ rest) (sym (whole b)) ∙ sym (front a b))
 
 list_tokens : (values : List Json) → items_tokens (json_text.items_of values) ≡ flat_map json_tokens values ++ end_array ∷ []
 list_tokens [] = refl

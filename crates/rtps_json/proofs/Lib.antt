@@ -5,3 +5,4 @@ pub mod Offered
 mod OneMembers
 mod SecondLemmas
 mod TalkLemmas
+pub mod ValueLemmas

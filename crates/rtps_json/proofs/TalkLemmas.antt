@@ -1,11 +1,7 @@
--- Tokens of arrays of what is made alike, and how deep the members nest that say who does not talk.
-use Rattle.std.proofs.Common.{◌≡◌, ◌≤◌, ◌++◌, ◌∷◌, [], ◌∙◌, ℕ, Bool, true, false, if◌then◌else◌, is_some, List, Option, None, Some, ap, append-nil, arith, codes, map, refl, sym}
-use Rattle.std.proofs.lemmas.List.Concat.{flat_map-append}
-use Rattle.std.proofs.lemmas.List.Folds.{flat_map-map}
-use Rattle.std.specs.List.{flat_map}
-use Rattle.json.specs.Json.{Json, boolean, string}
-use Rattle.json.specs.Token.{Token, begin_array, end_array}
-use Rattle.json.specs.Tree.{depth, json_tokens, members_depth}
+-- How deep the members nest that say who does not talk.
+use Rattle.std.proofs.Common.{◌≤◌, ◌++◌, ◌∷◌, [], ℕ, Bool, true, false, is_some, List, Option, None, Some, arith, codes}
+use Rattle.json.specs.Json.{boolean, string}
+use Rattle.json.specs.Tree.{depth, members_depth}
 use Rattle.rtps_evidence.specs.Times as times_spec
 use Rattle.rtps_policies.specs.Fitting as fitting
 use Rattle.rtps_policies.specs.PolicyText as policy_text
@@ -30,43 +26,7 @@ use Rattle.rtps_lines.specs.PolicyValues as policy_values
 use Rattle.rtps_json.specs.AddressMembers as address_members
 use Rattle.rtps_json.specs.TalkMembers as talk_members
 use Rattle.rtps_lines.specs.declared.policy_values.Naming.{Naming}
-use Rattle.rtps_json.proofs.JsonLemmas.{items_within, joined, mapped_tokens, numbers_within, place_within, second_within, timed_within}
-use Rattle.rtps_lines.proofs.Offered.{four_parts}
-
--- ---- tokens
-
--- a name, and an array of what is made of these values one by one
-pub array_written : {X : Type 0} {one two three four : List Token} (f : X → Json) (xs taken : List X) (start : List Token) (name : Token) → taken ≡ xs
-    → one ≡ start ++ name ∷ [] → two ≡ one ++ begin_array ∷ [] → three ≡ two ++ flat_map (λ x. json_tokens (f x)) taken → four ≡ three ++ end_array ∷ []
-    → four ≡ start ++ name ∷ json_tokens (json_text.array_of (map f xs))
-array_written {X} {one} {two} f xs taken start name all first second third fourth =
-    four_parts start (name ∷ []) (begin_array ∷ []) (flat_map (λ x. json_tokens (f x)) xs) (end_array ∷ []) first second
-    (third ∙ ap (λ some. two ++ flat_map (λ x. json_tokens (f x)) some) all) fourth
-    ∙ ap (λ tokens. start ++ name ∷ tokens) (sym (mapped_tokens f xs))
-
--- the same of values that are views of items
-pub views_written : {X Y : Type 0} {one two three four : List Token} (f : Y → Json) (g : X → Y) (xs taken : List X) (start : List Token) (name : Token) → taken ≡ xs
-    → one ≡ start ++ name ∷ [] → two ≡ one ++ begin_array ∷ [] → three ≡ two ++ flat_map (λ x. json_tokens (f (g x))) taken → four ≡ three ++ end_array ∷ []
-    → four ≡ start ++ name ∷ json_tokens (json_text.array_of (map f (map g xs)))
-views_written {X} {Y} {one} {two} f g xs taken start name all first second third fourth =
-    array_written f (map g xs) (map g taken) start name (ap (map g) all) first second
-    (third ∙ ap (λ tokens. two ++ tokens) (sym (flat_map-map (λ y. json_tokens (f y)) g taken))) fourth
-
--- three members
-pub three_tokens : (a b c : json_text.Member) → json_text.tokens_of_member a ++ (json_text.tokens_of_member b ++ json_text.tokens_of_member c) ≡ json_text.tokens_of (a ∷ b ∷ c ∷ [])
-three_tokens a b c = ap (λ last. json_text.tokens_of_member a ++ (json_text.tokens_of_member b ++ last)) (sym (append-nil (json_text.tokens_of_member c)))
-
--- four members, some more, one, some others, and a last one
-pub eight_tokens : (a b c d : json_text.Member) (more : List json_text.Member) (e : json_text.Member) (others : List json_text.Member) (last : json_text.Member)
-    → json_text.tokens_of_member a ++ (json_text.tokens_of_member b ++ (json_text.tokens_of_member c ++ (json_text.tokens_of_member d ++ (json_text.tokens_of more ++ (json_text.tokens_of_member e ++ (json_text.tokens_of others ++ json_text.tokens_of_member last))))))
-    ≡ json_text.tokens_of (a ∷ b ∷ c ∷ d ∷ (more ++ e ∷ (others ++ last ∷ [])))
-eight_tokens a b c d more e others last =
-    ap (λ (rest : List Token). json_text.tokens_of_member a ++ (json_text.tokens_of_member b ++ (json_text.tokens_of_member c ++ (json_text.tokens_of_member d ++ rest))))
-    (ap (λ (end : List Token). json_text.tokens_of more ++ (json_text.tokens_of_member e ++ end))
-    (ap (λ (end : List Token). json_text.tokens_of others ++ end) (sym (append-nil (json_text.tokens_of_member last))) ∙ sym (flat_map-append json_text.tokens_of_member others (last ∷ [])))
-    ∙ sym (flat_map-append json_text.tokens_of_member more (e ∷ (others ++ last ∷ []))))
-
--- ---- depth
+use Rattle.rtps_json.proofs.JsonLemmas.{items_within, joined, numbers_within, place_within, second_within, timed_within}
 
 reasons_within : (policies : List Policy) → depth (talk_members.reasons_json policies) ≤ 1
 reasons_within policies = omega (arith, items_within (λ policy. string (policy_text.policy_name policy)) 0 policies (λ policy. omega arith))

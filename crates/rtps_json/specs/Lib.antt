@@ -5,3 +5,4 @@ pub mod EndMembers
 pub mod EventMembers
 pub mod JsonText
 pub mod TalkMembers
+pub mod Values

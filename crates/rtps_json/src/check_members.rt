@@ -1,21 +1,31 @@
-ghost use Rattle.std.specs.Prelude.{◌≡◌, ◌++◌, OnOk, map};
-ghost use Rattle.std.specs.String.{string_bytes};
-ghost use Rattle.rtps_report.specs.Asked as asked;
-ghost use Rattle.rtps_report.specs.FullReport as full_report;
-ghost use Rattle.rtps_json.specs.CheckMembers as check_members;
-ghost use Rattle.rtps_json.specs.JsonText as json_text;
+//! Members of the object of a report that is checked.
 
-use crate::event_members::push_events;
-use crate::json_members::{Clock, push_text, push_texts, push_total};
+ghost use Rattle.std.specs.Prelude.{◌≡◌, ◌++◌, IfOk, OnOk, is_some, map};
+ghost use Rattle.std.specs.String.{string_bytes};
+ghost use Rattle.rtps_report.specs.Asked.{asked_value};
+ghost use Rattle.rtps_report.specs.Events.{event_value};
+ghost use Rattle.rtps_report.specs.FullReport.{report_value};
+ghost use Rattle.rtps_report.specs.Talk.{talk_value};
+ghost use Rattle.rtps_json.specs.CheckMembers.{check_members, check_telling, report_ends, status_text};
+ghost use Rattle.rtps_json.specs.CheckMembers as of_check;
+ghost use Rattle.rtps_json.specs.EventMembers.{events_member};
+ghost use Rattle.rtps_json.specs.JsonText.{clock_times, telling_value, tokens_of};
+ghost use Rattle.rtps_json.specs.TalkMembers.{talk_members};
+ghost use Rattle.rtps_json.specs.Values.{members_json};
+
+use crate::json_members::Clock;
 use crate::json_object::{Telling, ToldRows, push_report_members};
-use crate::talk_members::{has_other, push_talk_members};
+use crate::json_writer::push_members;
+use crate::talk_members::has_other;
+use crate::values::{Made, Members, Value, joined};
+use crate::{event_members, talk_members};
 use json::Writer;
 use rtps_lines::{report_causes, report_notes};
-use rtps_report::{Ending, FullReport, events_of, scope_of};
+use rtps_report::{Ending, Event, FullReport, events_of, scope_of};
 use std::alloc::{AllocError, Global};
 
 fn status_name(ending: &Ending) -> &'static str
-    ensures { result.now ≡ check_members.status_text ending.now }
+    ensures { result.now ≡ status_text ending.now }
 {
     match ending {
         Ending::Clean => "clean",
@@ -23,18 +33,18 @@ fn status_name(ending: &Ending) -> &'static str
     }
 }
 
-fn push_status(writer: &mut Writer, ending: &Ending, causes: &[String]) -> Result<(), AllocError>
-    ensures tokens { OnOk result (writer.new.tokens
-        ≡ writer.old.tokens ++ json_text.tokens_of (check_members.status_members ending.now (map string_bytes causes.now))) }
-    ensures before { writer.new.before ≡ writer.old.before }
+fn status_members(ending: &Ending, causes: Vec<String>, alloc: Global) -> Made<Members>
+    ensures { IfOk result (λ members. members_json members.items ≡ of_check.status_members ending.now (map string_bytes causes.items)) }
 {
-    push_text(writer, "status", status_name(ending))?;
-    push_texts(writer, "because", causes)
+    Ok(vec![in alloc;
+        ("status", Value::Word(status_name(ending))),
+        ("because", Value::Texts(causes)),
+    ]?)
 }
 
 /// By what the objects of a report's rows are told.
 fn telling_of<'t, 'a>(report: &'t FullReport<'a>) -> Telling<'t, 'a>
-    ensures { json_text.telling_value result ≡ check_members.check_telling (asked.asked_value report.now.asked.now) report.now.recording.now (full_report.report_value report.now) }
+    ensures { telling_value result ≡ check_telling (asked_value report.now.asked.now) report.now.recording.now (report_value report.now) }
 {
     Telling {
         scope: scope_of(report),
@@ -45,51 +55,56 @@ fn telling_of<'t, 'a>(report: &'t FullReport<'a>) -> Telling<'t, 'a>
     }
 }
 
-/// Appends how many pairs are the wrong way round, where there is another recording.
-fn push_wrong_way(writer: &mut Writer, has_other: bool, wrong: u128) -> Result<(), AllocError>
-    ensures tokens { OnOk result (writer.new.tokens ≡ writer.old.tokens ++ json_text.tokens_of (check_members.wrong_way_members has_other wrong)) }
-    ensures before { writer.new.before ≡ writer.old.before }
+/// How many pairs are the wrong way round, where there is another recording.
+fn wrong_way_members(has_other: bool, wrong: u128, alloc: Global) -> Made<Members>
+    ensures { IfOk result (λ members. members_json members.items ≡ of_check.wrong_way_members has_other wrong) }
 {
     if has_other {
-        push_total(writer, "wrong_way", wrong)
+        Ok(vec![in alloc; ("wrong_way", Value::Total(wrong))]?)
     } else {
-        Ok(())
+        Ok(Vec::new(alloc))
     }
 }
 
-/// Appends the events of a report.
-fn push_report_events(
+/// The members that stand last.
+fn last_members(
+    report: &FullReport<'_>,
+    events: &[Event],
+    notes: Vec<String>,
+    clock: Clock<'_>,
+) -> Made<Members>
+    ensures { IfOk result (λ members. members_json members.items
+        ≡ of_check.last_members (is_some (report_value report.now).arrived) report.now.order.wrong (events_member (clock_times clock.entry) (talk_value report.now.talk) (map event_value events.now)) (map string_bytes notes.items)) }
+{
+    let events = event_members::events_member(events, &report.talk, clock)?;
+    let members = vec![in clock.alloc; events, ("notes", Value::Texts(notes))]?;
+    joined(
+        wrong_way_members(has_other(report), report.order.wrong, clock.alloc)?,
+        members,
+    )
+}
+
+/// Appends who does not talk, and the members that stand last.
+fn push_ends(
     alloc: Global,
     writer: &mut Writer,
     report: &FullReport<'_>,
+    notes: Vec<String>,
 ) -> Result<(), AllocError>
     ensures tokens { OnOk result (writer.new.tokens ≡ writer.old.tokens
-        ++ json_text.tokens_of_member (check_members.report_events (asked.asked_value report.now.asked.now) report.now.recording.now (full_report.report_value report.now))) }
+        ++ tokens_of (talk_members report.now.recording.now.times (report_value report.now) ++ report_ends (asked_value report.now.asked.now) report.now.recording.now (report_value report.now) (map string_bytes notes.items))) }
     ensures before { writer.new.before ≡ writer.old.before }
 {
-    let events = events_of(alloc, report)?;
     let clock = Clock {
         times: report.recording.times(),
         alloc,
         framed: true,
     };
-    push_events(writer, &events, &report.talk, clock)
-}
-
-/// Appends the members that stand last.
-fn push_last_members(
-    alloc: Global,
-    writer: &mut Writer,
-    report: &FullReport<'_>,
-    notes: &[String],
-) -> Result<(), AllocError>
-    ensures tokens { OnOk result (writer.new.tokens ≡ writer.old.tokens
-        ++ json_text.tokens_of (check_members.report_ends (asked.asked_value report.now.asked.now) report.now.recording.now (full_report.report_value report.now) (map string_bytes notes.now))) }
-    ensures before { writer.new.before ≡ writer.old.before }
-{
-    push_wrong_way(writer, has_other(report), report.order.wrong)?;
-    push_report_events(alloc, writer, report)?;
-    push_texts(writer, "notes", notes)
+    let mut text = String::new(alloc);
+    let events = events_of(alloc, report)?;
+    let ends = last_members(report, &events, notes, clock)?;
+    let members = joined(talk_members::talk_members(report, clock)?, ends)?;
+    push_members(writer, &mut text, &members)
 }
 
 /// Appends the members of the object of a report that is checked. After an `Err` what was written is of no use.
@@ -99,18 +114,19 @@ pub fn push_check_members(
     report: &FullReport<'_>,
 ) -> Result<(), AllocError>
     ensures tokens { OnOk result (writer.new.tokens ≡ writer.old.tokens
-        ++ json_text.tokens_of (check_members.check_members (asked.asked_value report.now.asked.now) report.now.recording.now (full_report.report_value report.now))) }
+        ++ tokens_of (check_members (asked_value report.now.asked.now) report.now.recording.now (report_value report.now))) }
     ensures before { writer.new.before ≡ writer.old.before }
 {
+    let mut text = String::new(alloc);
     let causes = report_causes(alloc, report)?;
     let notes = report_notes(alloc, report)?;
-    push_status(writer, &report.ending, &causes)?;
+    let status = status_members(&report.ending, causes, alloc)?;
+    push_members(writer, &mut text, &status)?;
     let rows = ToldRows {
         explained: &report.explained,
         recording: report.recording,
         telling: Some(telling_of(report)),
     };
     push_report_members(alloc, writer, &rows)?;
-    push_talk_members(alloc, writer, report)?;
-    push_last_members(alloc, writer, report, &notes)
+    push_ends(alloc, writer, report, notes)
 }

@@ -1,175 +1,131 @@
 //! Members of the object of a report on what discovery has told.
 
-ghost use Rattle.std.specs.Prelude.{◌≡◌, ◌++◌, ◌∷◌, OnOk, codes, map};
-ghost use Rattle.json.specs.Token.{key};
-ghost use Rattle.json.specs.Tree.{json_tokens};
-ghost use Rattle.rtps_report.specs.FullReport as full_report;
+ghost use Rattle.std.specs.Prelude.{◌≡◌, IfOk, map};
+ghost use Rattle.rtps_report.specs.FullReport.{report_value, rows_of};
+ghost use Rattle.rtps_report.specs.LateRows.{late_row_value};
 ghost use Rattle.rtps_report.specs.LateRows as late_rows_spec;
-ghost use Rattle.rtps_report.specs.NotTold as not_told;
-ghost use Rattle.rtps_report.specs.Talk as talk_spec;
-ghost use Rattle.rtps_json.specs.DiscoveryMembers as discovery_members;
-ghost use Rattle.rtps_json.specs.JsonText as json_text;
+ghost use Rattle.rtps_report.specs.NotTold.{not_told_value, topic_end_value};
+ghost use Rattle.rtps_report.specs.Talk.{talk_value};
+ghost use Rattle.rtps_json.specs.DiscoveryMembers.{ends_json, late_json, lives_json, not_told_json, sent_json};
+ghost use Rattle.rtps_json.specs.DiscoveryMembers as of_discovery;
+ghost use Rattle.rtps_json.specs.JsonText.{clock_times};
+ghost use Rattle.rtps_json.specs.Values.{member_json, members_json, value_json};
 
-use crate::json_members::{Clock, push_count, push_guid, push_name, push_seconds, push_standing};
-use crate::talk_members::push_address;
-use json::Writer;
-use rtps_evidence::{Seconds, Times};
+use crate::json_members::{Clock, place_value};
+use crate::talk_members::address_value;
+use crate::values::{Made, Member, Members, Value, array, name, object};
+use rtps_evidence::Seconds;
 use rtps_lines::sent_second;
 use rtps_report::{FullReport, LateRow, NotTold, Talk, TopicEnd, TwoLives, late_rows};
-use std::alloc::AllocError;
+use std::alloc::Global;
 
-/// Appends the GUIDs of endpoints.
-fn push_ends(
-    writer: &mut Writer,
-    text: &mut String,
-    name: &str,
-    ends: &[TopicEnd<'_>],
-) -> Result<(), AllocError>
-    ensures tokens { OnOk result (writer.new.tokens ≡ writer.old.tokens ++ key name.now ∷ json_tokens (discovery_members.ends_json (map not_told.topic_end_value ends.now))) }
-    ensures before { writer.new.before ≡ writer.old.before }
+/// The GUIDs of endpoints.
+#[tactic(auto, using(crate::proofs::ValueLemmas::one_more))]
+fn ends_value(ends: &[TopicEnd<'_>], alloc: Global) -> Made<Value>
+    ensures { IfOk result (λ value. value_json value ≡ ends_json (map topic_end_value ends.now)) }
 {
-    writer.key(name)?;
-    writer.begin_array()?;
+    let mut values = Vec::new(alloc);
     for end in ends {
-        text.clear();
-        write!(text, "{}", end.guid)?;
-        writer.string(text)?;
+        values.push(Value::Guid(end.guid))?;
     }
-    writer.end_array()
+    Ok(array(values))
 }
 
-fn push_not_told(
-    writer: &mut Writer,
-    text: &mut String,
-    one: &NotTold<'_>,
-) -> Result<(), AllocError>
-    ensures tokens { OnOk result (writer.new.tokens ≡ writer.old.tokens ++ json_tokens (discovery_members.not_told_json (not_told.not_told_value one.now))) }
-    ensures before { writer.new.before ≡ writer.old.before }
+fn not_told_object(one: &NotTold<'_>, alloc: Global) -> Made<Value>
+    ensures { IfOk result (λ value. value_json value ≡ not_told_json (not_told_value one.now)) }
 {
-    writer.begin_object()?;
-    push_guid(writer, text, "from", one.from)?;
-    push_guid(writer, text, "to", one.to)?;
-    push_ends(writer, text, "writers", &one.writers)?;
-    push_ends(writer, text, "readers", &one.readers)?;
-    push_count(writer, "unnamed", one.unnamed)?;
-    writer.end_object()
+    let writers = ends_value(&one.writers, alloc)?;
+    let readers = ends_value(&one.readers, alloc)?;
+    let members = vec![in alloc;
+        ("from", Value::Guid(one.from)),
+        ("to", Value::Guid(one.to)),
+        ("writers", writers),
+        ("readers", readers),
+        ("unnamed", Value::Count(one.unnamed)),
+    ]?;
+    Ok(object(members))
 }
 
-fn push_all_not_told(
-    writer: &mut Writer,
-    text: &mut String,
-    found: &[NotTold<'_>],
-) -> Result<(), AllocError>
-    ensures tokens { OnOk result (writer.new.tokens ≡ writer.old.tokens ++ json_text.tokens_of_member (discovery_members.not_told_member (map not_told.not_told_value found.now))) }
-    ensures before { writer.new.before ≡ writer.old.before }
+#[tactic(auto, using(crate::proofs::ValueLemmas::one_more))]
+fn not_told_member(found: &[NotTold<'_>], alloc: Global) -> Made<Member>
+    ensures { IfOk result (λ member. member_json member ≡ of_discovery.not_told_member (map not_told_value found.now)) }
 {
-    writer.key("untold")?;
-    writer.begin_array()?;
+    let mut values = Vec::new(alloc);
     for one in found {
-        push_not_told(writer, text, one)?;
+        values.push(not_told_object(one, alloc)?)?;
     }
-    writer.end_array()
+    Ok(("untold", array(values)))
 }
 
-fn push_late(
-    writer: &mut Writer,
-    text: &mut String,
-    one: &LateRow<'_>,
-    clock: Clock<'_>,
-) -> Result<(), AllocError>
-    ensures tokens { OnOk result (writer.new.tokens ≡ writer.old.tokens ++ json_tokens (discovery_members.late_json (json_text.clock_times clock.entry) (late_rows_spec.late_row_value one.now))) }
-    ensures before { writer.new.before ≡ writer.old.before }
+fn late_object(one: &LateRow<'_>, clock: Clock<'_>) -> Made<Value>
+    ensures { IfOk result (λ value. value_json value ≡ late_json (clock_times clock.entry) (late_row_value one.now)) }
 {
-    writer.begin_object()?;
-    push_name(writer, text, "topic", one.topic)?;
-    push_guid(writer, text, "writer", one.pair.writer)?;
-    push_guid(writer, text, "reader", one.pair.reader)?;
-    writer.key("seconds")?;
-    push_seconds(writer, Seconds::of(one.late.delay), clock.alloc)?;
-    push_standing(writer, "matched", Some(one.late.place), clock)?;
-    writer.end_object()
+    let matched = place_value(Some(one.late.place), clock)?;
+    let topic = name(one.topic, clock.alloc)?;
+    let members = vec![in clock.alloc;
+        ("topic", topic),
+        ("writer", Value::Guid(one.pair.writer)),
+        ("reader", Value::Guid(one.pair.reader)),
+        ("seconds", Value::Second(Seconds::of(one.late.delay))),
+        ("matched", matched),
+    ]?;
+    Ok(object(members))
 }
 
-fn push_all_late(
-    writer: &mut Writer,
-    text: &mut String,
-    late: &[LateRow<'_>],
-    clock: Clock<'_>,
-) -> Result<(), AllocError>
-    ensures tokens { OnOk result (writer.new.tokens ≡ writer.old.tokens
-        ++ json_text.tokens_of_member (discovery_members.late_member (json_text.clock_times clock.entry) (map late_rows_spec.late_row_value late.now))) }
-    ensures before { writer.new.before ≡ writer.old.before }
+#[tactic(auto, using(crate::proofs::ValueLemmas::one_more))]
+fn late_member(late: &[LateRow<'_>], clock: Clock<'_>) -> Made<Member>
+    ensures { IfOk result (λ member. member_json member
+        ≡ of_discovery.late_member (clock_times clock.entry) (map late_row_value late.now)) }
 {
-    writer.key("late")?;
-    writer.begin_array()?;
+    let mut values = Vec::new(clock.alloc);
     for one in late {
-        push_late(writer, text, one, clock)?;
+        values.push(late_object(one, clock)?)?;
     }
-    writer.end_array()
+    Ok(("late", array(values)))
 }
 
-/// Appends the two source times of a participant with two lives.
-fn push_sent(writer: &mut Writer, sent: (u64, u64), clock: Clock<'_>) -> Result<(), AllocError>
-    ensures tokens { OnOk result (writer.new.tokens ≡ writer.old.tokens ++ key (codes "sent") ∷ json_tokens (discovery_members.sent_json (json_text.clock_times clock.entry) sent)) }
-    ensures before { writer.new.before ≡ writer.old.before }
+/// The two source times of a participant with two lives.
+fn sent_value(sent: (u64, u64), clock: Clock<'_>) -> Made<Value>
+    ensures { IfOk result (λ value. value_json value ≡ sent_json (clock_times clock.entry) sent) }
 {
-    let (first, other) = sent;
-    writer.key("sent")?;
-    writer.begin_array()?;
-    push_seconds(writer, sent_second(clock.times, first), clock.alloc)?;
-    push_seconds(writer, sent_second(clock.times, other), clock.alloc)?;
-    writer.end_array()
+    let first = sent_second(clock.times, sent.0);
+    let other = sent_second(clock.times, sent.1);
+    Ok(array(vec![in clock.alloc; Value::Second(first), Value::Second(other)]?))
 }
 
-fn push_lives(
-    writer: &mut Writer,
-    text: &mut String,
-    one: TwoLives,
-    by: (&Talk<'_>, Clock<'_>),
-) -> Result<(), AllocError>
-    ensures tokens { OnOk result (writer.new.tokens ≡ writer.old.tokens
-        ++ json_tokens (discovery_members.lives_json (talk_spec.talk_value by.entry.0.now) (json_text.clock_times by.entry.1) one)) }
-    ensures before { writer.new.before ≡ writer.old.before }
+fn lives_object(one: TwoLives, talk: &Talk<'_>, clock: Clock<'_>) -> Made<Value>
+    ensures { IfOk result (λ value. value_json value ≡ lives_json (talk_value talk.now) (clock_times clock.entry) one) }
 {
-    let (talk, clock) = by;
-    writer.begin_object()?;
-    push_guid(writer, text, "participant", one.participant)?;
-    push_address(writer, text, talk.end(one.participant).address)?;
-    push_sent(writer, one.sent, clock)?;
-    writer.end_object()
+    let address = address_value(talk.end(one.participant).address, clock.alloc)?;
+    let sent = sent_value(one.sent, clock)?;
+    let members = vec![in clock.alloc;
+        ("participant", Value::Guid(one.participant)),
+        ("address", address),
+        ("sent", sent),
+    ]?;
+    Ok(object(members))
 }
 
-fn push_all_lives(
-    writer: &mut Writer,
-    text: &mut String,
-    talk: &Talk<'_>,
-    clock: Clock<'_>,
-) -> Result<(), AllocError>
-    ensures tokens { OnOk result (writer.new.tokens ≡ writer.old.tokens
-        ++ json_text.tokens_of_member (discovery_members.lives_member (json_text.clock_times clock.entry) (talk_spec.talk_value talk.now))) }
-    ensures before { writer.new.before ≡ writer.old.before }
+#[tactic(auto, using(crate::proofs::ValueLemmas::one_more))]
+fn lives_member(talk: &Talk<'_>, clock: Clock<'_>) -> Made<Member>
+    ensures { IfOk result (λ member. member_json member
+        ≡ of_discovery.lives_member (clock_times clock.entry) (talk_value talk.now)) }
 {
-    writer.key("lives")?;
-    writer.begin_array()?;
+    let mut values = Vec::new(clock.alloc);
     for one in &talk.lives {
-        push_lives(writer, text, *one, (talk, clock))?;
+        values.push(lives_object(*one, talk, clock)?)?;
     }
-    writer.end_array()
+    Ok(("lives", array(values)))
 }
 
-/// Appends who was never told of which endpoints, which pairs matched late, and who has two lives.
-pub(crate) fn push_discovery_members(
-    writer: &mut Writer,
-    text: &mut String,
-    report: &FullReport<'_>,
-    clock: Clock<'_>,
-) -> Result<(), AllocError>
-    ensures tokens { OnOk result (writer.new.tokens ≡ writer.old.tokens
-        ++ json_text.tokens_of (discovery_members.discovery_members (json_text.clock_times clock.entry) (talk_spec.talk_value report.now.talk) (late_rows_spec.late_rows (talk_spec.talk_value report.now.talk) (full_report.rows_of (full_report.report_value report.now))))) }
-    ensures before { writer.new.before ≡ writer.old.before }
+/// Who was never told of which endpoints, which pairs matched late, and who has two lives.
+pub(crate) fn discovery_members(report: &FullReport<'_>, clock: Clock<'_>) -> Made<Members>
+    ensures { IfOk result (λ members. members_json members.items
+        ≡ of_discovery.discovery_members (clock_times clock.entry) (talk_value report.now.talk) (late_rows_spec.late_rows (talk_value report.now.talk) (rows_of (report_value report.now)))) }
 {
-    let late = late_rows(clock.alloc, &report.talk, &report.explained.rows)?;
-    push_all_not_told(writer, text, &report.talk.not_told)?;
-    push_all_late(writer, text, &late, clock)?;
-    push_all_lives(writer, text, &report.talk, clock)
+    let rows = late_rows(clock.alloc, &report.talk, &report.explained.rows)?;
+    let not_told = not_told_member(&report.talk.not_told, clock.alloc)?;
+    let late = late_member(&rows, clock)?;
+    let lives = lives_member(&report.talk, clock)?;
+    Ok(vec![in clock.alloc; not_told, late, lives]?)
 }

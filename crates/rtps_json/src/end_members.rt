@@ -1,79 +1,59 @@
-ghost use Rattle.std.specs.Prelude.{◌≡◌, ◌++◌, ◌∷◌, OnOk, map, option_copied};
-ghost use Rattle.std.specs.Option.{option_map};
-ghost use Rattle.json.specs.Token.{key};
-ghost use Rattle.json.specs.Tree.{json_tokens};
-ghost use Rattle.rtps_report.specs.Talk as talk_spec;
-ghost use Rattle.rtps_who.specs.Processes as processes;
-ghost use Rattle.rtps_who.specs.Samples as samples;
-ghost use Rattle.rtps_json.specs.EndMembers as end_members;
-ghost use Rattle.rtps_json.specs.JsonText as json_text;
+//! Members on what is known of ends.
 
-use crate::json_members::{push_name, push_optional};
-use json::Writer;
+ghost use Rattle.std.specs.Prelude.{◌≡◌, IfOk, map, option_copied};
+ghost use Rattle.std.specs.Option.{option_map};
+ghost use Rattle.rtps_report.specs.Talk.{talk_value};
+ghost use Rattle.rtps_who.specs.Processes.{process_value};
+ghost use Rattle.rtps_who.specs.Samples.{node_value};
+ghost use Rattle.rtps_json.specs.EndMembers.{known_json};
+ghost use Rattle.rtps_json.specs.EndMembers as end_members;
+ghost use Rattle.rtps_json.specs.JsonText.{node_json, some_node_json};
+ghost use Rattle.rtps_json.specs.JsonText as json_text;
+ghost use Rattle.rtps_json.specs.Values.{member_json, members_json, value_json};
+
+use crate::values::{Made, Member, Members, Value, array, name, some_count};
 use rtps_discovery::Pair;
 use rtps_lines::NodeText;
 use rtps_report::Talk;
 use rtps_who::{Node, Process};
-use std::alloc::AllocError;
+use std::alloc::Global;
 
-/// Appends octets that are known; null where they are not. They are written to `text` first.
-fn push_known(
-    writer: &mut Writer,
-    text: &mut String,
-    name: &str,
-    octets: Option<&[u8]>,
-) -> Result<(), AllocError>
-    ensures tokens { OnOk result (writer.new.tokens ≡ writer.old.tokens ++ key name.now ∷ json_tokens (end_members.known_json (option_copied octets.entry))) }
-    ensures before { writer.new.before ≡ writer.old.before }
+/// Octets that are known; null where they are not.
+fn known(octets: Option<&[u8]>, alloc: Global) -> Made<Value>
+    ensures { IfOk result (λ value. value_json value ≡ known_json (option_copied octets.entry)) }
 {
     match octets {
-        Some(octets) => push_name(writer, text, name, octets),
-        None => {
-            writer.key(name)?;
-            writer.null()
-        }
+        Some(octets) => name(octets, alloc),
+        None => Ok(Value::Null),
     }
 }
 
-/// Appends the name of a node, which is written to `text` first.
-fn push_node_name(writer: &mut Writer, text: &mut String, node: Node<'_>) -> Result<(), AllocError>
-    ensures tokens { OnOk result (writer.new.tokens ≡ writer.old.tokens ++ json_tokens (json_text.node_json (samples.node_value node.entry))) }
-    ensures before { writer.new.before ≡ writer.old.before }
+/// The name of a node.
+fn node_name(node: Node<'_>, alloc: Global) -> Made<Value>
+    ensures { IfOk result (λ value. value_json value ≡ node_json (node_value node.entry)) }
 {
-    text.clear();
+    let mut text = String::new(alloc);
     write!(text, "{}", NodeText(node))?;
-    writer.string(text)
+    Ok(Value::Text(text))
 }
 
-/// Appends the node of an end under a name; null where it has none.
-fn push_node(
-    writer: &mut Writer,
-    text: &mut String,
-    name: &str,
-    node: Option<Node<'_>>,
-) -> Result<(), AllocError>
-    ensures tokens { OnOk result (writer.new.tokens ≡ writer.old.tokens ++ key name.now ∷ json_tokens (json_text.some_node_json (option_map samples.node_value node.entry))) }
-    ensures before { writer.new.before ≡ writer.old.before }
+/// The name of the node of an end; null where it has none.
+fn some_node(node: Option<Node<'_>>, alloc: Global) -> Made<Value>
+    ensures { IfOk result (λ value. value_json value ≡ some_node_json (option_map node_value node.entry)) }
 {
-    writer.key(name)?;
     match node {
-        Some(node) => push_node_name(writer, text, node),
-        None => writer.null(),
+        Some(node) => node_name(node, alloc),
+        None => Ok(Value::Null),
     }
 }
 
-/// Appends the nodes of a pair.
-pub(crate) fn push_nodes_of(
-    writer: &mut Writer,
-    text: &mut String,
-    talk: &Talk<'_>,
-    pair: Pair,
-) -> Result<(), AllocError>
-    ensures tokens { OnOk result (writer.new.tokens ≡ writer.old.tokens ++ json_text.tokens_of (json_text.node_members (talk_spec.talk_value talk.now) pair)) }
-    ensures before { writer.new.before ≡ writer.old.before }
+/// The nodes of a pair.
+pub(crate) fn node_members(talk: &Talk<'_>, pair: Pair, alloc: Global) -> Made<Members>
+    ensures { IfOk result (λ members. members_json members.items ≡ json_text.node_members (talk_value talk.now) pair) }
 {
-    push_node(writer, text, "writer_node", talk.node(pair.writer))?;
-    push_node(writer, text, "reader_node", talk.node(pair.reader))
+    let writer = some_node(talk.node(pair.writer), alloc)?;
+    let reader = some_node(talk.node(pair.reader), alloc)?;
+    Ok(vec![in alloc; ("writer_node", writer), ("reader_node", reader)]?)
 }
 
 /// The number of a process.
@@ -86,36 +66,32 @@ fn pid_number(pid: Option<u32>) -> Option<u64>
     }
 }
 
-/// Appends what is known of a process.
-pub(crate) fn push_process(
-    writer: &mut Writer,
-    text: &mut String,
-    process: &Process<'_>,
-) -> Result<(), AllocError>
-    ensures tokens { OnOk result (writer.new.tokens ≡ writer.old.tokens ++ json_text.tokens_of (end_members.process_members (processes.process_value process.now))) }
-    ensures before { writer.new.before ≡ writer.old.before }
+/// What is known of a process.
+pub(crate) fn process_members(process: &Process<'_>, alloc: Global) -> Made<Members>
+    ensures { IfOk result (λ members. members_json members.items ≡ end_members.process_members (process_value process.now)) }
 {
-    let pid = pid_number(process.pid);
-    push_known(writer, text, "host", process.host)?;
-    push_known(writer, text, "process", process.program)?;
-    push_optional(writer, "pid", pid)?;
-    push_known(writer, text, "name", process.name)?;
-    push_known(writer, text, "enclave", process.enclave)
+    let host = known(process.host, alloc)?;
+    let program = known(process.program, alloc)?;
+    let name = known(process.name, alloc)?;
+    let enclave = known(process.enclave, alloc)?;
+    let members = vec![in alloc;
+        ("host", host),
+        ("process", program),
+        ("pid", some_count(pid_number(process.pid))),
+        ("name", name),
+        ("enclave", enclave),
+    ]?;
+    Ok(members)
 }
 
-/// Appends names of nodes.
-pub(crate) fn push_node_names(
-    writer: &mut Writer,
-    text: &mut String,
-    nodes: &[Node<'_>],
-) -> Result<(), AllocError>
-    ensures tokens { OnOk result (writer.new.tokens ≡ writer.old.tokens ++ json_text.tokens_of_member (end_members.nodes_member (map samples.node_value nodes.now))) }
-    ensures before { writer.new.before ≡ writer.old.before }
+/// The names of nodes.
+#[tactic(auto, using(crate::proofs::ValueLemmas::one_more))]
+pub(crate) fn nodes_member(nodes: &[Node<'_>], alloc: Global) -> Made<Member>
+    ensures { IfOk result (λ member. member_json member ≡ end_members.nodes_member (map node_value nodes.now)) }
 {
-    writer.key("nodes")?;
-    writer.begin_array()?;
+    let mut values = Vec::new(alloc);
     for node in nodes {
-        push_node_name(writer, text, *node)?;
+        values.push(node_name(*node, alloc)?)?;
     }
-    writer.end_array()
+    Ok(("nodes", array(values)))
 }

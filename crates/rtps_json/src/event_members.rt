@@ -1,18 +1,21 @@
-ghost use Rattle.std.specs.Prelude.{◌≡◌, ◌++◌, ◌∷◌, OnOk, codes, map};
-ghost use Rattle.json.specs.Token.{key as key_token};
-ghost use Rattle.json.specs.Tree.{items_tokens, json_tokens};
-ghost use Rattle.rtps_report.specs.Events as events_spec;
-ghost use Rattle.rtps_report.specs.Talk as talk_spec;
-ghost use Rattle.rtps_json.specs.EventMembers as event_members;
-ghost use Rattle.rtps_json.specs.JsonText as json_text;
+//! The member on what makes rows unclean together.
 
-use crate::json_members::{Clock, push_numbers, push_standing, push_text, push_total};
-use json::Writer;
+ghost use Rattle.std.specs.Prelude.{◌≡◌, ◌++◌, ◌∷◌, [], IfOk, codes, map};
+ghost use Rattle.json.specs.Json.{string};
+ghost use Rattle.rtps_report.specs.Events.{event_value};
+ghost use Rattle.rtps_report.specs.Talk.{talk_value};
+ghost use Rattle.rtps_json.specs.EventMembers.{event_json, parties_json, party_json};
+ghost use Rattle.rtps_json.specs.EventMembers as event_members;
+ghost use Rattle.rtps_json.specs.JsonText.{clock_times};
+ghost use Rattle.rtps_json.specs.Values.{items_json, member_json, members_json, value_json};
+
+use crate::json_members::{Clock, place_value};
+use crate::values::{Made, Member, Members, Value, array, joined, object};
 use rtps_ids::GuidPrefix;
 use rtps_lines::push_event_text;
 use rtps_policies::participant_of;
 use rtps_report::{Event, EventKey, Talk};
-use std::alloc::AllocError;
+use std::alloc::Global;
 
 /// What an event is of, in a word.
 fn event_name(key: EventKey) -> &'static str
@@ -24,112 +27,95 @@ fn event_name(key: EventKey) -> &'static str
     }
 }
 
-/// Appends the GUID of a participant.
-fn push_party(writer: &mut Writer, text: &mut String, prefix: GuidPrefix) -> Result<(), AllocError>
-    ensures tokens { OnOk result (writer.new.tokens ≡ writer.old.tokens ++ json_tokens (event_members.party_json prefix)) }
-    ensures before { writer.new.before ≡ writer.old.before }
+/// The GUID of a participant.
+fn party(prefix: GuidPrefix) -> Value
+    ensures { value_json result ≡ party_json prefix }
 {
-    text.clear();
-    write!(text, "{}", participant_of(prefix))?;
-    writer.string(text)
+    Value::Guid(participant_of(prefix))
 }
 
-/// Appends the GUID of the second participant of an event, if there is one, and the end of the array.
-fn push_second(
-    writer: &mut Writer,
-    text: &mut String,
-    second: Option<GuidPrefix>,
-) -> Result<(), AllocError>
-    ensures tokens { OnOk result (writer.new.tokens ≡ writer.old.tokens ++ items_tokens (json_text.items_of (event_members.parties_by second))) }
-    ensures before { writer.new.before ≡ writer.old.before }
+/// The GUIDs of the participants of an event.
+fn parties(key: EventKey, alloc: Global) -> Made<Value>
+    ensures { IfOk result (λ value. value_json value ≡ parties_json key) }
 {
-    let Some(prefix) = second else {
-        return writer.end_array();
-    };
-    push_party(writer, text, prefix)?;
-    writer.end_array()
+    match key.second {
+        None => Ok(array(vec![in alloc; party(key.first)]?)),
+        Some(second) => Ok(array(vec![in alloc; party(key.first), party(second)]?)),
+    }
 }
 
-/// Appends the GUIDs of the participants of an event.
-fn push_parties(writer: &mut Writer, text: &mut String, key: EventKey) -> Result<(), AllocError>
-    ensures tokens { OnOk result (writer.new.tokens ≡ writer.old.tokens ++ key_token (codes "participants") ∷ json_tokens (event_members.parties_json key)) }
-    ensures before { writer.new.before ≡ writer.old.before }
+/// The places of the rows of an event, and how many numbers they lost.
+fn amounts_members(event: &Event, alloc: Global) -> Made<Members>
+    ensures { IfOk result (λ members. members_json members.items ≡ event_members.amounts_members (event_value event.now)) }
 {
-    writer.key("participants")?;
-    writer.begin_array()?;
-    push_party(writer, text, key.first)?;
-    push_second(writer, text, key.second)
+    let pairs = Vec::from_slice(alloc, &event.places)?;
+    Ok(vec![in alloc;
+        ("pairs", Value::Counts(pairs)),
+        ("numbers", Value::Total(event.numbers)),
+    ]?)
 }
 
-/// Appends the places of the rows of an event, and how many numbers they lost.
-fn push_amounts(writer: &mut Writer, event: &Event) -> Result<(), AllocError>
-    ensures tokens { OnOk result (writer.new.tokens ≡ writer.old.tokens ++ json_text.tokens_of (event_members.amounts_members (events_spec.event_value event.now))) }
-    ensures before { writer.new.before ≡ writer.old.before }
+/// Where the first and the last of these numbers were sent first, and where the silent participant was asked.
+fn places_members(event: &Event, clock: Clock<'_>) -> Made<Members>
+    ensures { IfOk result (λ members. members_json members.items
+        ≡ event_members.places_members (clock_times clock.entry) (event_value event.now)) }
 {
-    writer.key("pairs")?;
-    push_numbers(writer, &event.places)?;
-    push_total(writer, "numbers", event.numbers)
+    let first = place_value(event.first, clock)?;
+    let last = place_value(event.last, clock)?;
+    let asked = place_value(event.asked, clock)?;
+    Ok(vec![in clock.alloc; ("first", first), ("last", last), ("asked", asked)]?)
 }
 
-/// Appends where the first and the last of these numbers were sent first, and where the silent participant was asked.
-fn push_places(writer: &mut Writer, event: &Event, clock: Clock<'_>) -> Result<(), AllocError>
-    ensures tokens { OnOk result (writer.new.tokens ≡ writer.old.tokens ++ json_text.tokens_of (event_members.places_members (json_text.clock_times clock.entry) (events_spec.event_value event.now))) }
-    ensures before { writer.new.before ≡ writer.old.before }
-{
-    push_standing(writer, "first", event.first, clock)?;
-    push_standing(writer, "last", event.last, clock)?;
-    push_standing(writer, "asked", event.asked, clock)
-}
-
-/// Appends an event as a sentence.
-fn push_sentence(
-    writer: &mut Writer,
-    event: &Event,
-    talk: &Talk<'_>,
-    clock: Clock<'_>,
-) -> Result<(), AllocError>
-    ensures tokens { OnOk result (writer.new.tokens ≡ writer.old.tokens ++ json_text.tokens_of_member (event_members.sentence_member clock.entry.times.now (talk_spec.talk_value talk.now) (events_spec.event_value event.now))) }
-    ensures before { writer.new.before ≡ writer.old.before }
+/// An event as a sentence.
+fn sentence_member(event: &Event, talk: &Talk<'_>, clock: Clock<'_>) -> Made<Member>
+    ensures { IfOk result (λ member. member_json member
+        ≡ event_members.sentence_member (clock_times clock.entry) (talk_value talk.now) (event_value event.now)) }
 {
     let mut text = String::new(clock.alloc);
     push_event_text(&mut text, event, talk, clock.times)?;
-    push_text(writer, "text", &text)
+    Ok(("text", Value::Text(text)))
 }
 
-/// Appends the object of an event.
-fn push_event(
-    writer: &mut Writer,
-    event: &Event,
-    talk: &Talk<'_>,
-    clock: Clock<'_>,
-) -> Result<(), AllocError>
-    ensures tokens { OnOk result (writer.new.tokens ≡ writer.old.tokens ++ json_tokens (event_members.event_json (json_text.clock_times clock.entry) (talk_spec.talk_value talk.now) (events_spec.event_value event.now))) }
-    ensures before { writer.new.before ≡ writer.old.before }
+/// What an event is of, and its participants.
+fn named_members(key: EventKey, alloc: Global) -> Made<Members>
+    ensures { IfOk result (λ members. members_json members.items
+        ≡ (codes "event", string (event_members.event_name key)) ∷ (codes "participants", parties_json key) ∷ []) }
 {
-    let mut text = String::new(clock.alloc);
-    writer.begin_object()?;
-    push_text(writer, "event", event_name(event.key))?;
-    push_parties(writer, &mut text, event.key)?;
-    push_amounts(writer, event)?;
-    push_places(writer, event, clock)?;
-    push_sentence(writer, event, talk, clock)?;
-    writer.end_object()
+    let participants = parties(key, alloc)?;
+    Ok(vec![in alloc;
+        ("event", Value::Word(event_name(key))),
+        ("participants", participants),
+    ]?)
 }
 
-/// Appends all events.
-pub(crate) fn push_events(
-    writer: &mut Writer,
-    events: &[Event],
-    talk: &Talk<'_>,
-    clock: Clock<'_>,
-) -> Result<(), AllocError>
-    ensures tokens { OnOk result (writer.new.tokens ≡ writer.old.tokens ++ json_text.tokens_of_member (event_members.events_member (json_text.clock_times clock.entry) (talk_spec.talk_value talk.now) (map events_spec.event_value events.now))) }
-    ensures before { writer.new.before ≡ writer.old.before }
+/// Its places, and a sentence.
+fn told_members(event: &Event, talk: &Talk<'_>, clock: Clock<'_>) -> Made<Members>
+    ensures { IfOk result (λ members. members_json members.items
+        ≡ event_members.places_members (clock_times clock.entry) (event_value event.now)
+        ++ event_members.sentence_member (clock_times clock.entry) (talk_value talk.now) (event_value event.now) ∷ []) }
 {
-    writer.key("events")?;
-    writer.begin_array()?;
+    let sentence = vec![in clock.alloc; sentence_member(event, talk, clock)?]?;
+    joined(places_members(event, clock)?, sentence)
+}
+
+fn event_object(event: &Event, talk: &Talk<'_>, clock: Clock<'_>) -> Made<Value>
+    ensures { IfOk result (λ value. value_json value
+        ≡ event_json (clock_times clock.entry) (talk_value talk.now) (event_value event.now)) }
+{
+    let told = told_members(event, talk, clock)?;
+    let members = joined(amounts_members(event, clock.alloc)?, told)?;
+    Ok(object(joined(named_members(event.key, clock.alloc)?, members)?))
+}
+
+/// All events.
+#[tactic(auto, using(crate::proofs::ValueLemmas::one_more))]
+pub(crate) fn events_member(events: &[Event], talk: &Talk<'_>, clock: Clock<'_>) -> Made<Member>
+    ensures { IfOk result (λ member. member_json member
+        ≡ event_members.events_member (clock_times clock.entry) (talk_value talk.now) (map event_value events.now)) }
+{
+    let mut values = Vec::new(clock.alloc);
     for event in events {
-        push_event(writer, event, talk, clock)?;
+        values.push(event_object(event, talk, clock)?)?;
     }
-    writer.end_array()
+    Ok(("events", array(values)))
 }

@@ -1,25 +1,30 @@
+//! The object of a report.
+
 ghost use Rattle.std.specs.Prelude.{◌≡◌, ◌≤◌, ◌++◌, ◌∷◌, [], IfOk, OnOk, codes, map};
 ghost use Rattle.std.specs.Fmt.{signed_decimal};
 ghost use Rattle.std.specs.Option.{option_map};
 ghost use Rattle.std.specs.String.{string_bytes};
-ghost use Rattle.json.specs.Json.{Json, max_depth};
-ghost use Rattle.json.specs.Token.{key, number as number_token, string as string_token};
+ghost use Rattle.json.specs.Json.{Json, boolean, max_depth, number as number_of, string};
 ghost use Rattle.json.specs.Tree.{depth, json_tokens};
-ghost use Rattle.rtps_evidence.specs.Explanation as explanation;
-ghost use Rattle.rtps_evidence.specs.Grounds as grounds_spec;
+ghost use Rattle.rtps_evidence.specs.Explanation.{evidence_value, explanation_value};
+ghost use Rattle.rtps_evidence.specs.Grounds.{grounds_value};
+ghost use Rattle.rtps_report.specs.RowFacts as row_facts;
+ghost use Rattle.rtps_json.specs.JsonText.{clock_times, IsJsonLine, advice_json, arrived_json, lacking_json, pairs_member, report_json, row_json, rows_members, sentence_json, telling_value, tokens_of, tokens_of_member};
 ghost use Rattle.rtps_json.specs.JsonText as json_text;
+ghost use Rattle.rtps_json.specs.Values.{members_json, value_json};
 
-use crate::end_members::push_nodes_of;
+use crate::end_members::node_members;
 use crate::json_members::{
-    Clock, push_asked, push_claim, push_count, push_delivery, push_evidence, push_flag,
-    push_framed, push_guid, push_name, push_number, push_numbers, push_optional, push_sent,
-    push_teller, push_text, push_texts, push_timed, push_total, push_wait,
+    Clock, asked_members, claim_value, delivery_members, evidence_members, frame_member,
+    second_member, sent_place_value, teller_value, timed, wait_members,
 };
-use crate::number_members::push_lost_of;
+use crate::json_writer::{push_members, push_value};
+use crate::number_members::lost_object;
+use crate::values::{Made, Member, Members, Value, array, joined, name, object, some_count};
 use json::Writer;
 use rtps_audit::{Counts, Verdict};
 use rtps_evidence::{
-    Evidence, Explained, Explanation, Grounds, InSpan, LostNumbers, Outcomes, Times,
+    Evidence, Explained, Explanation, Grounds, InSpan, LostNumbers, Outcomes, Times, Wait,
 };
 use rtps_lines::{AdviceText, silence_lines};
 use rtps_report::{Reasons, Recording, Scope, Talk, advice_of, is_clean, row_from};
@@ -29,7 +34,7 @@ use std::alloc::{AllocError, Global};
 pub fn json_line(writer: Writer) -> Result<String, AllocError>
     requires { writer.before ≡ [] }
     ensures { (value : Json) → writer.tokens ≡ json_tokens value → depth value ≤ max_depth
-        → IfOk result (λ text. json_text.IsJsonLine value (string_bytes text)) }
+        → IfOk result (λ text. IsJsonLine value (string_bytes text)) }
 {
     let mut text = unsafe { String::from_utf8_unchecked(writer.into_inner()) };
     text.push_str("\n")?;
@@ -73,7 +78,7 @@ pub fn push_report<'r>(
     recording: &'r Recording,
 ) -> Result<(), AllocError>
     ensures tokens { OnOk result (writer.new.tokens
-        ≡ writer.old.tokens ++ json_tokens (json_text.report_json (map explanation.explanation_value explained.now.rows.items) explained.now.counts recording.now)) }
+        ≡ writer.old.tokens ++ json_tokens (report_json (map explanation_value explained.now.rows.items) explained.now.counts recording.now)) }
     ensures before { writer.new.before ≡ writer.old.before }
 {
     writer.begin_object()?;
@@ -93,7 +98,7 @@ pub(crate) fn push_report_members(
     told: &ToldRows<'_, '_>,
 ) -> Result<(), AllocError>
     ensures tokens { OnOk result (writer.new.tokens
-        ≡ writer.old.tokens ++ json_text.tokens_of (json_text.rows_members (option_map json_text.telling_value told.now.telling) (map explanation.explanation_value told.now.explained.now.rows.items) told.now.explained.now.counts told.now.recording.now)) }
+        ≡ writer.old.tokens ++ tokens_of (rows_members (option_map telling_value told.now.telling) (map explanation_value told.now.explained.now.rows.items) told.now.explained.now.counts told.now.recording.now)) }
     ensures before { writer.new.before ≡ writer.old.before }
 {
     let recording = told.recording;
@@ -108,12 +113,11 @@ pub(crate) fn push_report_members(
         clock,
     };
     push_pairs(writer, &mut text, &told.explained.rows, form)?;
-    push_counts(writer, told.explained.counts)?;
-    push_ignored(writer, recording.ignored())?;
-    push_reasons(writer, recording.reasons())
+    let members = counts_told(told.explained.counts, recording, alloc)?;
+    push_members(writer, &mut text, &members)
 }
 
-/// Appends the array of rows. Names are written to `text` first.
+/// Appends the array of rows: the object of each is made, written and dropped. Names are written to `text` first.
 fn push_pairs(
     writer: &mut Writer,
     text: &mut String,
@@ -121,7 +125,7 @@ fn push_pairs(
     form: RowForm<'_, '_>,
 ) -> Result<(), AllocError>
     ensures tokens { OnOk result (writer.new.tokens
-        ≡ writer.old.tokens ++ json_text.tokens_of_member (json_text.pairs_member (option_map json_text.telling_value form.entry.telling) (json_text.clock_times form.entry.clock) (map explanation.explanation_value rows.now))) }
+        ≡ writer.old.tokens ++ tokens_of_member (pairs_member (option_map telling_value form.entry.telling) (clock_times form.entry.clock) (map explanation_value rows.now))) }
     ensures before { writer.new.before ≡ writer.old.before }
 {
     writer.key("pairs")?;
@@ -139,217 +143,212 @@ fn push_row(
     form: RowForm<'_, '_>,
 ) -> Result<(), AllocError>
     ensures tokens { OnOk result (writer.new.tokens
-        ≡ writer.old.tokens ++ json_tokens (json_text.row_json (option_map json_text.telling_value form.entry.telling) (json_text.clock_times form.entry.clock) (explanation.explanation_value row.now))) }
+        ≡ writer.old.tokens ++ json_tokens (row_json (option_map telling_value form.entry.telling) (clock_times form.entry.clock) (explanation_value row.now))) }
     ensures before { writer.new.before ≡ writer.old.before }
 {
-    writer.begin_object()?;
-    push_pair(writer, text, row)?;
-    push_verdict(writer, row.evidence.verdict)?;
-    push_evidence(writer, &row.evidence, form.clock)?;
-    push_delivery(writer, &row.evidence, form.clock)?;
-    push_shown(writer, &row.evidence.grounds, form.clock)?;
-    push_further(writer, row, form)?;
-    writer.end_object()
+    let object = row_object(row, form)?;
+    push_value(writer, text, &object)
 }
 
-/// Appends what is told of a row of a report beside its evidence; nothing of a row of an audit.
-fn push_further(
-    writer: &mut Writer,
-    row: &Explanation<'_>,
-    form: RowForm<'_, '_>,
-) -> Result<(), AllocError>
-    ensures tokens { OnOk result (writer.new.tokens
-        ≡ writer.old.tokens ++ json_text.tokens_of (json_text.further_members (option_map json_text.telling_value form.entry.telling) (json_text.clock_times form.entry.clock) (explanation.explanation_value row.now))) }
-    ensures before { writer.new.before ≡ writer.old.before }
+fn row_object(row: &Explanation<'_>, form: RowForm<'_, '_>) -> Made<Value>
+    ensures { IfOk result (λ value. value_json value
+        ≡ row_json (option_map telling_value form.entry.telling) (clock_times form.entry.clock) (explanation_value row.now)) }
+{
+    let evidence = &row.evidence;
+    let further = further_members(row, form)?;
+    let members = joined(shown_members(&evidence.grounds, form.clock)?, further)?;
+    let members = joined(delivery_members(evidence, form.clock)?, members)?;
+    let members = joined(evidence_members(evidence, form.clock)?, members)?;
+    let members = joined(
+        verdict_members(evidence.verdict, form.clock.alloc)?,
+        members,
+    )?;
+    Ok(object(joined(pair_members(row, form.clock.alloc)?, members)?))
+}
+
+/// What is told of a row of a report beside its evidence; nothing of a row of an audit.
+fn further_members(row: &Explanation<'_>, form: RowForm<'_, '_>) -> Made<Members>
+    ensures { IfOk result (λ members. members_json members.items
+        ≡ json_text.further_members (option_map telling_value form.entry.telling) (clock_times form.entry.clock) (explanation_value row.now)) }
 {
     match form.telling {
-        Some(telling) => push_spanned(writer, row, telling, form.clock),
-        None => Ok(()),
+        Some(telling) => spanned_members(row, telling, form.clock),
+        None => Ok(Vec::new(form.clock.alloc)),
     }
 }
 
-fn push_spanned(
-    writer: &mut Writer,
+fn spanned_members(
     row: &Explanation<'_>,
     telling: Telling<'_, '_>,
     clock: Clock<'_>,
-) -> Result<(), AllocError>
-    ensures tokens { OnOk result (writer.new.tokens
-        ≡ writer.old.tokens ++ json_text.tokens_of (json_text.spanned_members (json_text.telling_value telling.entry) (json_text.clock_times clock.entry) (explanation.explanation_value row.now))) }
-    ensures before { writer.new.before ≡ writer.old.before }
+) -> Made<Members>
+    ensures { IfOk result (λ members. members_json members.items
+        ≡ json_text.spanned_members (telling_value telling.entry) (clock_times clock.entry) (explanation_value row.now)) }
 {
-    push_span(writer, &row.evidence, telling, clock)?;
-    push_lost_of(writer, telling.lost, row.place, clock)?;
-    push_silence(writer, row, telling, clock.alloc)?;
-    push_advice(writer, row, telling, clock.alloc)?;
-    push_nodes(writer, row, telling, clock.alloc)
+    let lost = vec![in clock.alloc; ("numbers", lost_object(telling.lost, row.place, clock)?)]?;
+    let members = joined(lost, advised_members(row, telling, clock.alloc)?)?;
+    joined(span_members(&row.evidence, telling, clock)?, members)
 }
 
-/// Appends the span of a row, what became of its numbers, whether it is clean, and its longest wait; nothing where it is in no span.
-fn push_span(
-    writer: &mut Writer,
+/// Who is silent of the two of a row, what to do for it, and its nodes.
+fn advised_members(row: &Explanation<'_>, telling: Telling<'_, '_>, alloc: Global) -> Made<Members>
+    ensures { IfOk result (λ members. members_json members.items
+        ≡ json_text.silence_members (telling_value telling.entry) (explanation_value row.now)
+        ++ json_text.advice_member (telling_value telling.entry) (explanation_value row.now) ∷ json_text.node_members (telling_value telling.entry).talk row.now.pair) }
+{
+    let advice = vec![in alloc; ("advice", advice_value(row, telling, alloc)?)]?;
+    let members = joined(advice, node_members(telling.talk, row.pair, alloc)?)?;
+    joined(silence_members(row, telling, alloc)?, members)
+}
+
+/// The span of a row, what became of its numbers, whether it is clean, and its longest wait; nothing where it is in no span.
+fn span_members(
     evidence: &Evidence<'_>,
     telling: Telling<'_, '_>,
     clock: Clock<'_>,
-) -> Result<(), AllocError>
-    ensures tokens { OnOk result (writer.new.tokens
-        ≡ writer.old.tokens ++ json_text.tokens_of (json_text.span_members (json_text.telling_value telling.entry) (json_text.clock_times clock.entry) (explanation.evidence_value evidence.now))) }
-    ensures before { writer.new.before ≡ writer.old.before }
+) -> Made<Members>
+    ensures { IfOk result (λ members. members_json members.items
+        ≡ json_text.span_members (telling_value telling.entry) (clock_times clock.entry) (evidence_value evidence.now)) }
 {
     let Some(in_span) = &evidence.in_span else {
-        return Ok(());
+        return Ok(Vec::new(clock.alloc));
     };
     let Telling {
         scope,
         has_other,
         ..
     } = telling;
-    push_count(writer, "from", row_from(scope.from, evidence))?;
-    push_until(writer, in_span.until, clock)?;
-    push_outcomes(writer, in_span, has_other)?;
-    push_lacking(writer, in_span, has_other)?;
-    push_flag(writer, "clean", is_clean(scope.tail, evidence))?;
-    push_wait(writer, in_span.wait, clock)
+    let clean = clean_members(evidence, in_span.wait, scope.tail, clock)?;
+    let members = joined(lost_and_lacking(in_span, has_other, clock.alloc)?, clean)?;
+    let members = joined(until_members(in_span.until, clock)?, members)?;
+    let from = Value::Count(row_from(scope.from, evidence));
+    joined(vec![in clock.alloc; ("from", from)]?, members)
 }
 
-fn push_until(writer: &mut Writer, until: Option<u64>, clock: Clock<'_>) -> Result<(), AllocError>
-    ensures tokens { OnOk result (writer.new.tokens ≡ writer.old.tokens ++ json_text.tokens_of (json_text.until_members (json_text.clock_times clock.entry) until)) }
-    ensures before { writer.new.before ≡ writer.old.before }
+/// Whether a row is clean, and its longest wait.
+fn clean_members(
+    evidence: &Evidence<'_>,
+    wait: Option<Wait>,
+    tail: u64,
+    clock: Clock<'_>,
+) -> Made<Members>
+    ensures { IfOk result (λ members. members_json members.items
+        ≡ (codes "clean", boolean (row_facts.is_clean tail (evidence_value evidence.now))) ∷ json_text.wait_members (clock_times clock.entry) wait) }
 {
-    push_optional(writer, "until", until)?;
-    push_timed(writer, "until_time", until, clock)?;
-    push_framed(writer, "until_frame", until, clock)
+    let clean = vec![in clock.alloc; ("clean", Value::Flag(is_clean(tail, evidence)))]?;
+    joined(clean, wait_members(wait, clock)?)
 }
 
-fn push_outcomes(writer: &mut Writer, in_span: &InSpan, has_other: bool) -> Result<(), AllocError>
-    ensures tokens { OnOk result (writer.new.tokens ≡ writer.old.tokens ++ key (codes "outcomes") ∷ json_tokens (json_text.outcomes_json has_other in_span.now)) }
-    ensures before { writer.new.before ≡ writer.old.before }
+/// What became of the numbers of a row, and the first that did not arrive.
+fn lost_and_lacking(in_span: &InSpan, has_other: bool, alloc: Global) -> Made<Members>
+    ensures { IfOk result (λ members. members_json members.items
+        ≡ (codes "outcomes", json_text.outcomes_json has_other in_span.now) ∷ json_text.lacking_members has_other in_span.now) }
 {
-    writer.key("outcomes")?;
-    writer.begin_object()?;
-    push_outcome_members(writer, in_span, has_other)?;
-    writer.end_object()
+    let outcomes = object(outcome_members(in_span, has_other, alloc)?);
+    joined(
+        vec![in alloc; ("outcomes", outcomes)]?,
+        lacking_members(in_span, has_other, alloc)?,
+    )
 }
 
-fn push_outcome_members(
-    writer: &mut Writer,
-    in_span: &InSpan,
-    has_other: bool,
-) -> Result<(), AllocError>
-    ensures tokens { OnOk result (writer.new.tokens ≡ writer.old.tokens ++ json_text.tokens_of (json_text.outcome_members has_other in_span.now)) }
-    ensures before { writer.new.before ≡ writer.old.before }
+fn until_members(until: Option<u64>, clock: Clock<'_>) -> Made<Members>
+    ensures { IfOk result (λ members. members_json members.items ≡ json_text.until_members (clock_times clock.entry) until) }
 {
-    push_count(writer, "received", in_span.outcomes.received)?;
-    push_arrived(writer, in_span, has_other)?;
-    push_lost(writer, in_span.outcomes)
+    let times = vec![in clock.alloc;
+        second_member("until_time", until, clock),
+        frame_member("until_frame", until, clock),
+    ]?;
+    joined(
+        vec![in clock.alloc; ("until", some_count(until))]?,
+        timed(times, clock),
+    )
 }
 
-/// Appends how many numbers have each outcome but the first.
-fn push_lost(writer: &mut Writer, outcomes: Outcomes) -> Result<(), AllocError>
-    ensures tokens { OnOk result (writer.new.tokens ≡ writer.old.tokens ++ json_text.tokens_of (json_text.lost_members outcomes)) }
-    ensures before { writer.new.before ≡ writer.old.before }
+fn outcome_members(in_span: &InSpan, has_other: bool, alloc: Global) -> Made<Members>
+    ensures { IfOk result (λ members. members_json members.items ≡ json_text.outcome_members has_other in_span.now) }
 {
-    push_count(writer, "missed", outcomes.missed)?;
-    push_count(writer, "unsent", outcomes.unsent)?;
-    push_count(writer, "unanswered", outcomes.unanswered)?;
-    push_count(writer, "likely", outcomes.likely)?;
-    push_count(writer, "unconfirmed", outcomes.unconfirmed)
+    let outcomes = in_span.outcomes;
+    let lost = lost_members(outcomes, alloc)?;
+    let members = joined(arrived_members(in_span, has_other, alloc)?, lost)?;
+    joined(
+        vec![in alloc; ("received", Value::Count(outcomes.received))]?,
+        members,
+    )
 }
 
-/// Appends how many numbers of a row arrived; null where it is not held against another recording.
-fn push_arrived_number(writer: &mut Writer, in_span: &InSpan) -> Result<(), AllocError>
-    ensures tokens { OnOk result (writer.new.tokens ≡ writer.old.tokens ++ json_text.tokens_of_member (json_text.arrived_member in_span.now)) }
-    ensures before { writer.new.before ≡ writer.old.before }
+/// How many numbers have each outcome but the first.
+fn lost_members(outcomes: Outcomes, alloc: Global) -> Made<Members>
+    ensures { IfOk result (λ members. members_json members.items ≡ json_text.lost_members outcomes) }
 {
-    writer.key("arrived")?;
+    let members = vec![in alloc;
+        ("missed", Value::Count(outcomes.missed)),
+        ("unsent", Value::Count(outcomes.unsent)),
+        ("unanswered", Value::Count(outcomes.unanswered)),
+        ("likely", Value::Count(outcomes.likely)),
+        ("unconfirmed", Value::Count(outcomes.unconfirmed)),
+    ]?;
+    Ok(members)
+}
+
+/// How many numbers of a row arrived; null where it is not held against another recording.
+fn arrived_value(in_span: &InSpan) -> Value
+    ensures { value_json result ≡ arrived_json in_span.now }
+{
     if in_span.is_held {
-        writer.u64(in_span.outcomes.arrived)
+        Value::Count(in_span.outcomes.arrived)
     } else {
-        writer.null()
+        Value::Null
     }
 }
 
-/// Appends that, where there is another recording.
-fn push_arrived(writer: &mut Writer, in_span: &InSpan, has_other: bool) -> Result<(), AllocError>
-    ensures tokens { OnOk result (writer.new.tokens ≡ writer.old.tokens ++ json_text.tokens_of (json_text.arrived_members has_other in_span.now)) }
-    ensures before { writer.new.before ≡ writer.old.before }
+/// That, where there is another recording.
+fn arrived_members(in_span: &InSpan, has_other: bool, alloc: Global) -> Made<Members>
+    ensures { IfOk result (λ members. members_json members.items ≡ json_text.arrived_members has_other in_span.now) }
 {
     if has_other {
-        push_arrived_number(writer, in_span)
+        Ok(vec![in alloc; ("arrived", arrived_value(in_span))]?)
     } else {
-        Ok(())
+        Ok(Vec::new(alloc))
     }
 }
 
-/// Appends the first numbers of a row that did not arrive; null where it is not held against another recording.
-fn push_lacking_numbers(writer: &mut Writer, in_span: &InSpan) -> Result<(), AllocError>
-    ensures tokens { OnOk result (writer.new.tokens ≡ writer.old.tokens ++ json_text.tokens_of_member (json_text.lacking_member in_span.now)) }
-    ensures before { writer.new.before ≡ writer.old.before }
+/// The first numbers of a row that did not arrive; null where it is not held against another recording.
+fn lacking_value(in_span: &InSpan, alloc: Global) -> Made<Value>
+    ensures { IfOk result (λ value. value_json value ≡ lacking_json in_span.now) }
 {
-    writer.key("not_arrived")?;
-    if in_span.is_held {
-        push_numbers(writer, in_span.lacking.as_slice())
-    } else {
-        writer.null()
+    if !in_span.is_held {
+        return Ok(Value::Null);
     }
+    let lacking = Vec::from_slice(alloc, in_span.lacking.as_slice())?;
+    Ok(Value::Counts(lacking))
 }
 
-/// Appends these, where there is another recording.
-fn push_lacking(writer: &mut Writer, in_span: &InSpan, has_other: bool) -> Result<(), AllocError>
-    ensures tokens { OnOk result (writer.new.tokens ≡ writer.old.tokens ++ json_text.tokens_of (json_text.lacking_members has_other in_span.now)) }
-    ensures before { writer.new.before ≡ writer.old.before }
+/// These, where there is another recording.
+fn lacking_members(in_span: &InSpan, has_other: bool, alloc: Global) -> Made<Members>
+    ensures { IfOk result (λ members. members_json members.items ≡ json_text.lacking_members has_other in_span.now) }
 {
     if has_other {
-        push_lacking_numbers(writer, in_span)
+        Ok(vec![in alloc; ("not_arrived", lacking_value(in_span, alloc)?)]?)
     } else {
-        Ok(())
+        Ok(Vec::new(alloc))
     }
 }
 
-/// Appends the sentences on who is silent of the two of a row.
-fn push_silence_lines(
-    writer: &mut Writer,
-    row: &Explanation<'_>,
-    telling: Telling<'_, '_>,
-    alloc: Global,
-) -> Result<(), AllocError>
-    ensures tokens { OnOk result (writer.new.tokens
-        ≡ writer.old.tokens ++ json_text.tokens_of_member (json_text.silence_member (json_text.telling_value telling.entry) (explanation.explanation_value row.now))) }
-    ensures before { writer.new.before ≡ writer.old.before }
+/// The sentences on who is silent of the two of a row, where there are times.
+fn silence_members(row: &Explanation<'_>, telling: Telling<'_, '_>, alloc: Global) -> Made<Members>
+    ensures { IfOk result (λ members. members_json members.items
+        ≡ json_text.silence_members (telling_value telling.entry) (explanation_value row.now)) }
 {
-    let silences = telling.talk.silences(row.pair);
-    let lines = silence_lines(alloc, telling.times, silences)?;
-    push_texts(writer, "silence", &lines)
-}
-
-/// Appends these, where there are times.
-fn push_silence(
-    writer: &mut Writer,
-    row: &Explanation<'_>,
-    telling: Telling<'_, '_>,
-    alloc: Global,
-) -> Result<(), AllocError>
-    ensures tokens { OnOk result (writer.new.tokens
-        ≡ writer.old.tokens ++ json_text.tokens_of (json_text.silence_members (json_text.telling_value telling.entry) (explanation.explanation_value row.now))) }
-    ensures before { writer.new.before ≡ writer.old.before }
-{
-    if telling.times.are_there() {
-        push_silence_lines(writer, row, telling, alloc)
-    } else {
-        Ok(())
+    if !telling.times.are_there() {
+        return Ok(Vec::new(alloc));
     }
+    let lines = silence_lines(alloc, telling.times, telling.talk.silences(row.pair))?;
+    Ok(vec![in alloc; ("silence", Value::Texts(lines))]?)
 }
 
-/// Appends what to do for a row that is not clean.
-fn push_sentence(
-    writer: &mut Writer,
-    row: &Explanation<'_>,
-    telling: Telling<'_, '_>,
-    alloc: Global,
-) -> Result<(), AllocError>
-    ensures tokens { OnOk result (writer.new.tokens
-        ≡ writer.old.tokens ++ json_tokens (json_text.sentence_json (json_text.telling_value telling.entry) (explanation.explanation_value row.now))) }
-    ensures before { writer.new.before ≡ writer.old.before }
+/// What to do for a row that is not clean.
+fn sentence_value(row: &Explanation<'_>, telling: Telling<'_, '_>, alloc: Global) -> Made<Value>
+    ensures { IfOk result (λ value. value_json value ≡ sentence_json (telling_value telling.entry) (explanation_value row.now)) }
 {
     let Telling {
         scope,
@@ -360,146 +359,130 @@ fn push_sentence(
     let advice = advice_of(scope, &row.evidence, talk.silences(row.pair), times);
     let mut sentence = String::new(alloc);
     write!(sentence, "{}", AdviceText(times, advice))?;
-    writer.string(&sentence)
+    Ok(Value::Text(sentence))
 }
 
-/// Appends what to do for a row; null for a clean one.
-fn push_advice(
-    writer: &mut Writer,
-    row: &Explanation<'_>,
-    telling: Telling<'_, '_>,
-    alloc: Global,
-) -> Result<(), AllocError>
-    ensures tokens { OnOk result (writer.new.tokens
-        ≡ writer.old.tokens ++ json_text.tokens_of_member (json_text.advice_member (json_text.telling_value telling.entry) (explanation.explanation_value row.now))) }
-    ensures before { writer.new.before ≡ writer.old.before }
+/// What to do for a row; null for a clean one.
+fn advice_value(row: &Explanation<'_>, telling: Telling<'_, '_>, alloc: Global) -> Made<Value>
+    ensures { IfOk result (λ value. value_json value ≡ advice_json (telling_value telling.entry) (explanation_value row.now)) }
 {
-    let evidence = &row.evidence;
-    writer.key("advice")?;
-    if is_clean(telling.scope.tail, evidence) {
-        return writer.null();
+    if is_clean(telling.scope.tail, &row.evidence) {
+        return Ok(Value::Null);
     }
-    push_sentence(writer, row, telling, alloc)
+    sentence_value(row, telling, alloc)
 }
 
-/// Appends the nodes of a row.
-fn push_nodes(
-    writer: &mut Writer,
-    row: &Explanation<'_>,
-    telling: Telling<'_, '_>,
-    alloc: Global,
-) -> Result<(), AllocError>
-    ensures tokens { OnOk result (writer.new.tokens
-        ≡ writer.old.tokens ++ json_text.tokens_of (json_text.node_members (json_text.telling_value telling.entry).talk row.now.pair)) }
-    ensures before { writer.new.before ≡ writer.old.before }
+fn pair_members(row: &Explanation<'_>, alloc: Global) -> Made<Members>
+    ensures { IfOk result (λ members. members_json members.items ≡ json_text.pair_members (explanation_value row.now)) }
 {
-    let mut text = String::new(alloc);
-    push_nodes_of(writer, &mut text, telling.talk, row.pair)
+    let topic = name(row.topic, alloc)?;
+    let type_name = name(row.type_name, alloc)?;
+    let members = vec![in alloc;
+        ("writer", Value::Guid(row.pair.writer)),
+        ("reader", Value::Guid(row.pair.reader)),
+        ("topic", topic),
+        ("type", type_name),
+    ]?;
+    Ok(members)
 }
 
-fn push_pair(
-    writer: &mut Writer,
-    text: &mut String,
-    row: &Explanation<'_>,
-) -> Result<(), AllocError>
-    ensures tokens { OnOk result (writer.new.tokens ≡ writer.old.tokens ++ json_text.tokens_of (json_text.pair_members (explanation.explanation_value row.now))) }
-    ensures before { writer.new.before ≡ writer.old.before }
+fn judged(verdict: &'static str, number: i64, alloc: Global) -> Made<Members>
+    ensures { IfOk result (λ members. members_json members.items
+        ≡ (codes "verdict", string verdict.now) ∷ (codes "number", number_of (signed_decimal number)) ∷ []) }
 {
-    push_guid(writer, text, "writer", row.pair.writer)?;
-    push_guid(writer, text, "reader", row.pair.reader)?;
-    push_name(writer, text, "topic", row.topic)?;
-    push_name(writer, text, "type", row.type_name)
+    Ok(vec![in alloc;
+        ("verdict", Value::Word(verdict)),
+        ("number", Value::Number(number)),
+    ]?)
 }
 
-fn push_judged(writer: &mut Writer, name: &str, number: i64) -> Result<(), AllocError>
-    ensures tokens { OnOk result (writer.new.tokens
-        ≡ writer.old.tokens ++ key (codes "verdict") ∷ string_token name.now ∷ key (codes "number") ∷ number_token (signed_decimal number) ∷ []) }
-    ensures before { writer.new.before ≡ writer.old.before }
-{
-    push_text(writer, "verdict", name)?;
-    push_number(writer, "number", number)
-}
-
-fn push_verdict(writer: &mut Writer, verdict: Verdict) -> Result<(), AllocError>
-    ensures tokens { OnOk result (writer.new.tokens ≡ writer.old.tokens ++ json_text.tokens_of (json_text.verdict_members verdict)) }
-    ensures before { writer.new.before ≡ writer.old.before }
+fn verdict_members(verdict: Verdict, alloc: Global) -> Made<Members>
+    ensures { IfOk result (λ members. members_json members.items ≡ json_text.verdict_members verdict) }
 {
     match verdict {
-        Verdict::Complete { last } => push_judged(writer, "complete", last),
-        Verdict::Open { number } => push_judged(writer, "open", number),
-        Verdict::Conflict { number } => push_judged(writer, "conflict", number),
+        Verdict::Complete { last } => judged("complete", last, alloc),
+        Verdict::Open { number } => judged("open", number, alloc),
+        Verdict::Conflict { number } => judged("conflict", number, alloc),
         Verdict::Unfounded { datagram, number } => {
-            push_judged(writer, "unfounded", number)?;
-            push_count(writer, "datagram", datagram)
+            let place = vec![in alloc; ("datagram", Value::Count(datagram))]?;
+            joined(judged("unfounded", number, alloc)?, place)
         }
     }
 }
 
-fn push_shown(
-    writer: &mut Writer,
-    grounds: &Grounds<'_>,
-    clock: Clock<'_>,
-) -> Result<(), AllocError>
-    ensures tokens { OnOk result (writer.new.tokens
-        ≡ writer.old.tokens ++ json_text.tokens_of (json_text.shown_members (json_text.clock_times clock.entry) (grounds_spec.grounds_value grounds.now))) }
-    ensures before { writer.new.before ≡ writer.old.before }
+fn shown_members(grounds: &Grounds<'_>, clock: Clock<'_>) -> Made<Members>
+    ensures { IfOk result (λ members. members_json members.items
+        ≡ json_text.shown_members (clock_times clock.entry) (grounds_value grounds.now)) }
 {
+    let alloc = clock.alloc;
     match *grounds {
-        Grounds::Complete => Ok(()),
+        Grounds::Complete => Ok(Vec::new(alloc)),
         Grounds::Open {
             teller,
             asked_since,
             last_asked,
             ..
         } => {
-            push_teller(writer, "told", teller, clock)?;
-            push_asked(writer, asked_since, last_asked, clock)
+            let told = vec![in alloc; ("told", teller_value(teller, clock)?)]?;
+            joined(told, asked_members(asked_since, last_asked, clock)?)
         }
         Grounds::Conflict { first, other } => {
-            writer.key("sent")?;
-            writer.begin_array()?;
-            push_sent(writer, first, clock)?;
-            push_sent(writer, other, clock)?;
-            writer.end_array()
+            let first = sent_place_value(first, clock)?;
+            let other = sent_place_value(other, clock)?;
+            Ok(vec![in alloc; ("sent", array(vec![in alloc; first, other]?))]?)
         }
         Grounds::Unfounded { teller, claim } => {
-            push_claim(writer, "claimed", claim, clock)?;
-            push_teller(writer, "told", teller, clock)
+            let claimed = claim_value(claim, clock)?;
+            let told = teller_value(teller, clock)?;
+            Ok(vec![in alloc; ("claimed", claimed), ("told", told)]?)
         }
     }
 }
 
-fn push_counts(writer: &mut Writer, counts: Counts) -> Result<(), AllocError>
-    ensures tokens { OnOk result (writer.new.tokens ≡ writer.old.tokens ++ json_text.tokens_of (json_text.counts_members counts)) }
-    ensures before { writer.new.before ≡ writer.old.before }
+fn counts_members(counts: Counts, alloc: Global) -> Made<Members>
+    ensures { IfOk result (λ members. members_json members.items ≡ json_text.counts_members counts) }
 {
-    push_count(writer, "datagrams", counts.datagrams)?;
-    push_count(writer, "refused", counts.refused)?;
-    push_total(writer, "skipped", counts.skipped)?;
-    push_total(writer, "fragments", counts.fragments)?;
-    push_total(writer, "undirected", counts.undirected)?;
-    push_count(writer, "unsettled", counts.unsettled)
+    let members = vec![in alloc;
+        ("datagrams", Value::Count(counts.datagrams)),
+        ("refused", Value::Count(counts.refused)),
+        ("skipped", Value::Total(counts.skipped)),
+        ("fragments", Value::Total(counts.fragments)),
+        ("undirected", Value::Total(counts.undirected)),
+        ("unsettled", Value::Count(counts.unsettled)),
+    ]?;
+    Ok(members)
 }
 
-fn push_ignored(writer: &mut Writer, ignored: Option<u64>) -> Result<(), AllocError>
-    ensures tokens { OnOk result (writer.new.tokens ≡ writer.old.tokens ++ json_text.tokens_of (json_text.ignored_members ignored)) }
-    ensures before { writer.new.before ≡ writer.old.before }
+fn ignored_members(ignored: Option<u64>, alloc: Global) -> Made<Members>
+    ensures { IfOk result (λ members. members_json members.items ≡ json_text.ignored_members ignored) }
 {
     match ignored {
-        Some(ignored) => push_count(writer, "ignored", ignored),
-        None => Ok(()),
+        Some(ignored) => Ok(vec![in alloc; ("ignored", Value::Count(ignored))]?),
+        None => Ok(Vec::new(alloc)),
     }
 }
 
-fn push_reasons(writer: &mut Writer, reasons: Option<Reasons>) -> Result<(), AllocError>
-    ensures tokens { OnOk result (writer.new.tokens ≡ writer.old.tokens ++ json_text.tokens_of (json_text.reasons_members reasons)) }
-    ensures before { writer.new.before ≡ writer.old.before }
+fn reasons_members(reasons: Option<Reasons>, alloc: Global) -> Made<Members>
+    ensures { IfOk result (λ members. members_json members.items ≡ json_text.reasons_members reasons) }
 {
     let Some(reasons) = reasons else {
-        return Ok(());
+        return Ok(Vec::new(alloc));
     };
-    push_count(writer, "pieces", reasons.pieces)?;
-    push_count(writer, "cut", reasons.cut)?;
-    push_count(writer, "other", reasons.other)?;
-    push_count(writer, "links", reasons.links.number)
+    let members = vec![in alloc;
+        ("pieces", Value::Count(reasons.pieces)),
+        ("cut", Value::Count(reasons.cut)),
+        ("other", Value::Count(reasons.other)),
+        ("links", Value::Count(reasons.links.number)),
+    ]?;
+    Ok(members)
+}
+
+/// What was counted, and how many frames gave no datagram, for which reasons.
+fn counts_told(counts: Counts, recording: &Recording, alloc: Global) -> Made<Members>
+    ensures { IfOk result (λ members. members_json members.items
+        ≡ json_text.counts_members counts ++ (json_text.ignored_members recording.now.ignored ++ json_text.reasons_members recording.now.reasons)) }
+{
+    let reasons = reasons_members(recording.reasons(), alloc)?;
+    let members = joined(ignored_members(recording.ignored(), alloc)?, reasons)?;
+    joined(counts_members(counts, alloc)?, members)
 }

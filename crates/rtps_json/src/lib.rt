@@ -7,11 +7,15 @@ mod end_members;
 mod event_members;
 mod json_members;
 mod json_object;
+mod json_writer;
 mod number_members;
 mod talk_members;
+mod values;
 
 pub use check_members::push_check_members;
-pub use json_members::{
-    Clock, push_count, push_guid, push_name, push_number, push_seconds, push_text, push_texts,
-};
+pub use json_members::Clock;
 pub use json_object::{json_line, push_report};
+pub use json_writer::{push_guid, push_member, push_members, push_second, push_value};
+pub use values::{
+    Made, Member, Members, Value, array, joined, name, object, some_count, some_second,
+};

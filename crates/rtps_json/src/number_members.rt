@@ -1,110 +1,86 @@
-ghost use Rattle.std.specs.Prelude.{◌≡◌, ◌++◌, OnOk, map};
-ghost use Rattle.json.specs.Tree.{json_tokens};
-ghost use Rattle.rtps_evidence.specs.Explanation as explanation;
-ghost use Rattle.rtps_evidence.specs.Kinds as kinds;
+//! Members on the numbers of a row that are lost, or look so.
+
+ghost use Rattle.std.specs.Prelude.{◌≡◌, IfOk, map};
+ghost use Rattle.rtps_evidence.specs.Explanation.{lost_at};
+ghost use Rattle.rtps_evidence.specs.Kinds.{kind_value, lost_value};
+ghost use Rattle.rtps_json.specs.JsonText.{array_of, clock_times, kind_json, object_of, range_json};
 ghost use Rattle.rtps_json.specs.JsonText as json_text;
+ghost use Rattle.rtps_json.specs.Values.{members_json, value_json};
 
-use crate::json_members::{Clock, push_count, push_standing};
-use json::Writer;
+use crate::json_members::{Clock, place_value};
+use crate::values::{Made, Member, Members, Value, array, joined, object};
 use rtps_evidence::{KindNumbers, LostNumbers, NumberRange};
-use std::alloc::AllocError;
 
-fn push_range(writer: &mut Writer, range: NumberRange, clock: Clock<'_>) -> Result<(), AllocError>
-    ensures tokens { OnOk result (writer.new.tokens ≡ writer.old.tokens ++ json_tokens (json_text.range_json (json_text.clock_times clock.entry) range)) }
-    ensures before { writer.new.before ≡ writer.old.before }
+fn range_value(range: NumberRange, clock: Clock<'_>) -> Made<Value>
+    ensures { IfOk result (λ value. value_json value ≡ range_json (clock_times clock.entry) range) }
 {
-    writer.begin_object()?;
-    push_count(writer, "first", range.first)?;
-    push_count(writer, "last", range.last)?;
-    push_standing(writer, "sent", range.sent, clock)?;
-    writer.end_object()
+    let sent = place_value(range.sent, clock)?;
+    let members = vec![in clock.alloc;
+        ("first", Value::Count(range.first)),
+        ("last", Value::Count(range.last)),
+        ("sent", sent),
+    ]?;
+    Ok(object(members))
 }
 
-fn push_ranges(
-    writer: &mut Writer,
-    ranges: &[NumberRange],
-    clock: Clock<'_>,
-) -> Result<(), AllocError>
-    ensures tokens { OnOk result (writer.new.tokens ≡ writer.old.tokens ++ json_tokens (json_text.array_of (map (json_text.range_json (json_text.clock_times clock.entry)) ranges.now))) }
-    ensures before { writer.new.before ≡ writer.old.before }
+#[tactic(auto, using(crate::proofs::ValueLemmas::one_more))]
+fn ranges_value(ranges: &[NumberRange], clock: Clock<'_>) -> Made<Value>
+    ensures { IfOk result (λ value. value_json value ≡ array_of (map (range_json (clock_times clock.entry)) ranges.now)) }
 {
-    writer.begin_array()?;
+    let mut values = Vec::new(clock.alloc);
     for range in ranges {
-        push_range(writer, *range, clock)?;
+        values.push(range_value(*range, clock)?)?;
     }
-    writer.end_array()
+    Ok(array(values))
 }
 
-fn push_kind_object(
-    writer: &mut Writer,
-    kind: &KindNumbers,
-    clock: Clock<'_>,
-) -> Result<(), AllocError>
-    ensures tokens { OnOk result (writer.new.tokens ≡ writer.old.tokens ++ json_tokens (json_text.kind_json (json_text.clock_times clock.entry) (kinds.kind_value kind.now))) }
-    ensures before { writer.new.before ≡ writer.old.before }
+fn kind_object(kind: &KindNumbers, clock: Clock<'_>) -> Made<Value>
+    ensures { IfOk result (λ value. value_json value ≡ kind_json (clock_times clock.entry) (kind_value kind.now)) }
 {
-    writer.begin_object()?;
-    writer.key("ranges")?;
-    push_ranges(writer, &kind.ranges, clock)?;
-    push_count(writer, "more", kind.more as u64)?;
-    writer.end_object()
+    let ranges = ranges_value(&kind.ranges, clock)?;
+    Ok(object(vec![in clock.alloc;
+        ("ranges", ranges),
+        ("more", Value::Count(kind.more as u64)),
+    ]?))
 }
 
-/// Appends the ranges of a kind under its name; nothing where it has no number.
-fn push_kind(
-    writer: &mut Writer,
-    name: &str,
-    kind: &KindNumbers,
-    clock: Clock<'_>,
-) -> Result<(), AllocError>
-    ensures tokens { OnOk result (writer.new.tokens ≡ writer.old.tokens ++ json_text.tokens_of (json_text.kind_members name.now (json_text.clock_times clock.entry) (kinds.kind_value kind.now))) }
-    ensures before { writer.new.before ≡ writer.old.before }
+/// The ranges of a kind under its name; nothing where it has no number.
+fn kind_members(name: &'static str, kind: &KindNumbers, clock: Clock<'_>) -> Made<Members>
+    ensures { IfOk result (λ members. members_json members.items
+        ≡ json_text.kind_members name.now (clock_times clock.entry) (kind_value kind.now)) }
 {
     if kind.ranges.is_empty() {
-        return Ok(());
+        return Ok(Vec::new(clock.alloc));
     }
-    writer.key(name)?;
-    push_kind_object(writer, kind, clock)
+    Ok(vec![in clock.alloc; (name, kind_object(kind, clock)?)]?)
 }
 
-fn push_kinds(writer: &mut Writer, lost: &LostNumbers, clock: Clock<'_>) -> Result<(), AllocError>
-    ensures tokens { OnOk result (writer.new.tokens ≡ writer.old.tokens ++ json_text.tokens_of (json_text.kinds_members (json_text.clock_times clock.entry) (kinds.lost_value lost.now))) }
-    ensures before { writer.new.before ≡ writer.old.before }
+fn kinds_members(lost: &LostNumbers, clock: Clock<'_>) -> Made<Members>
+    ensures { IfOk result (λ members. members_json members.items
+        ≡ json_text.kinds_members (clock_times clock.entry) (lost_value lost.now)) }
 {
-    push_kind(writer, "missed", &lost.missed, clock)?;
-    push_kind(writer, "unsent", &lost.unsent, clock)?;
-    push_kind(writer, "unanswered", &lost.unanswered, clock)?;
-    push_kind(writer, "not_arrived", &lost.not_arrived, clock)
+    let missed = kind_members("missed", &lost.missed, clock)?;
+    let unsent = kind_members("unsent", &lost.unsent, clock)?;
+    let unanswered = kind_members("unanswered", &lost.unanswered, clock)?;
+    let not_arrived = kind_members("not_arrived", &lost.not_arrived, clock)?;
+    joined(missed, joined(unsent, joined(unanswered, not_arrived)?)?)
 }
 
-/// Appends those of the row of a place, if there is one.
-fn push_kinds_at(
-    writer: &mut Writer,
-    lost: &[LostNumbers],
-    place: usize,
-    clock: Clock<'_>,
-) -> Result<(), AllocError>
-    ensures tokens { OnOk result (writer.new.tokens ≡ writer.old.tokens ++ json_text.tokens_of (json_text.kinds_members (json_text.clock_times clock.entry) (explanation.lost_at (map kinds.lost_value lost.now) place))) }
-    ensures before { writer.new.before ≡ writer.old.before }
+/// Those of the row of a place, if there is one.
+fn kinds_members_at(lost: &[LostNumbers], place: usize, clock: Clock<'_>) -> Made<Members>
+    ensures { IfOk result (λ members. members_json members.items
+        ≡ json_text.kinds_members (clock_times clock.entry) (lost_at (map lost_value lost.now) place)) }
 {
     match lost.get(place) {
-        Some(numbers) => push_kinds(writer, numbers, clock),
-        None => Ok(()),
+        Some(numbers) => kinds_members(numbers, clock),
+        None => Ok(Vec::new(clock.alloc)),
     }
 }
 
-/// Appends which numbers of the row of a place are lost, or look so.
-pub(crate) fn push_lost_of(
-    writer: &mut Writer,
-    lost: &[LostNumbers],
-    place: usize,
-    clock: Clock<'_>,
-) -> Result<(), AllocError>
-    ensures tokens { OnOk result (writer.new.tokens ≡ writer.old.tokens ++ json_text.tokens_of_member (json_text.lost_member (json_text.clock_times clock.entry) (explanation.lost_at (map kinds.lost_value lost.now) place))) }
-    ensures before { writer.new.before ≡ writer.old.before }
+/// Which numbers of the row of a place are lost, or look so.
+pub(crate) fn lost_object(lost: &[LostNumbers], place: usize, clock: Clock<'_>) -> Made<Value>
+    ensures { IfOk result (λ value. value_json value
+        ≡ object_of (json_text.kinds_members (clock_times clock.entry) (lost_at (map lost_value lost.now) place))) }
 {
-    writer.key("numbers")?;
-    writer.begin_object()?;
-    push_kinds_at(writer, lost, place, clock)?;
-    writer.end_object()
+    Ok(object(kinds_members_at(lost, place, clock)?))
 }

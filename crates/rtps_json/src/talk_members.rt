@@ -1,160 +1,136 @@
-ghost use Rattle.std.specs.Prelude.{◌≡◌, ◌++◌, ◌∷◌, [], OnOk, codes, is_some, map};
-ghost use Rattle.std.specs.Option.{option_map};
-ghost use Rattle.json.specs.Json.{boolean};
-ghost use Rattle.json.specs.Token.{key};
-ghost use Rattle.json.specs.Tree.{json_tokens};
-ghost use Rattle.rtps_policies.specs.Fitting as fitting;
-ghost use Rattle.rtps_policies.specs.Unmatched as unmatched_spec;
-ghost use Rattle.rtps_report.specs.BestEfforts as best_efforts;
-ghost use Rattle.rtps_report.specs.FullReport as full_report;
-ghost use Rattle.rtps_report.specs.Talk as talk_spec;
-ghost use Rattle.rtps_json.specs.JsonText as json_text;
-ghost use Rattle.rtps_json.specs.AddressMembers as address_members;
-ghost use Rattle.rtps_json.specs.TalkMembers as talk_members_spec;
+//! Members of the object of a report on who does not talk.
 
-use crate::discovery_members::push_discovery_members;
-use crate::end_members::{push_node_names, push_process};
-use crate::json_members::{
-    Clock, push_count, push_flag, push_framed, push_guid, push_name, push_numbers, push_optional,
-    push_text, push_timed, push_total,
-};
-use json::Writer;
-use rtps_evidence::Times;
+ghost use Rattle.std.specs.Prelude.{◌≡◌, ◌∷◌, [], IfOk, is_some, map};
+ghost use Rattle.std.specs.Option.{option_map};
+ghost use Rattle.json.specs.Json.{string};
+ghost use Rattle.rtps_lines.specs.PolicyValues.{value_text};
+ghost use Rattle.rtps_lines.specs.declared.policy_values.Naming.TheVariants.{Dds};
+ghost use Rattle.rtps_policies.specs.Fitting.{profile_value};
+ghost use Rattle.rtps_policies.specs.PolicyText.{policy_name};
+ghost use Rattle.rtps_policies.specs.Unmatched.{unmatched_value};
+ghost use Rattle.rtps_report.specs.BestEfforts.{best_effort_value, held_value};
+ghost use Rattle.rtps_report.specs.FullReport.{report_value};
+ghost use Rattle.rtps_report.specs.Talk.{left_out_value, talk_value};
+ghost use Rattle.rtps_json.specs.JsonText.{clock_times};
+ghost use Rattle.rtps_json.specs.AddressMembers.{address_json};
+ghost use Rattle.rtps_json.specs.TalkMembers.{best_effort_json, held_json, one_way_json, participant_json, reasons_json, talking_json, unmatched_json, unobserved_json, values_json};
+ghost use Rattle.rtps_json.specs.TalkMembers as of_talk;
+ghost use Rattle.rtps_json.specs.Values.{member_json, members_json, value_json};
+
+use crate::discovery_members::discovery_members;
+use crate::end_members::{nodes_member, process_members};
+use crate::json_members::{Clock, frame_member, second_member, timed};
+use crate::values::{Made, Member, Members, Value, array, joined, name, object, some_count};
 use rtps_lines::{Naming, PolicyValue};
 use rtps_policies::{Address, OneWay, Policy, Profile, Silence, Unmatched, participant_of};
 use rtps_report::{BestEffort, FullReport, HeldPair, LeftOut, Participant, Stay, Talk};
-use std::alloc::{AllocError, Global};
+use std::alloc::Global;
 
-/// The endpoint of which it is told what it has of these policies.
-#[derive(Clone, Copy)]
-struct Valued<'p, 'a> {
-    policies: &'p [Policy],
-    profile: &'p Profile<'a>,
+/// The name of a policy.
+fn reason(policy: Policy, alloc: Global) -> Made<Value>
+    ensures { IfOk result (λ value. value_json value ≡ string (policy_name policy)) }
+{
+    let mut text = String::new(alloc);
+    write!(text, "{policy}")?;
+    Ok(Value::Text(text))
 }
 
-/// Appends the names of policies.
-fn push_reasons(
-    writer: &mut Writer,
-    text: &mut String,
-    policies: &[Policy],
-) -> Result<(), AllocError>
-    ensures tokens { OnOk result (writer.new.tokens ≡ writer.old.tokens ++ key (codes "because") ∷ json_tokens (talk_members_spec.reasons_json policies.now)) }
-    ensures before { writer.new.before ≡ writer.old.before }
+/// The names of policies.
+#[tactic(auto, using(crate::proofs::ValueLemmas::one_more))]
+fn reasons(policies: &[Policy], alloc: Global) -> Made<Value>
+    ensures { IfOk result (λ value. value_json value ≡ reasons_json policies.now) }
 {
-    writer.key("because")?;
-    writer.begin_array()?;
+    let mut values = Vec::new(alloc);
     for policy in policies {
-        text.clear();
-        write!(text, "{}", *policy)?;
-        writer.string(text)?;
+        values.push(reason(*policy, alloc)?)?;
     }
-    writer.end_array()
+    Ok(array(values))
 }
 
-/// Appends what an endpoint has of policies.
-fn push_values(
-    writer: &mut Writer,
-    text: &mut String,
-    name: &str,
-    valued: Valued<'_, '_>,
-) -> Result<(), AllocError>
-    ensures tokens { OnOk result (writer.new.tokens ≡ writer.old.tokens
-        ++ key name.now ∷ json_tokens (talk_members_spec.values_json valued.entry.policies.now (fitting.profile_value valued.entry.profile.now))) }
-    ensures before { writer.new.before ≡ writer.old.before }
+/// What an endpoint has of a policy.
+fn policy_value(policy: Policy, profile: &Profile<'_>, alloc: Global) -> Made<Value>
+    ensures { IfOk result (λ value. value_json value ≡ string (value_text Dds policy (profile_value profile.now))) }
 {
-    writer.key(name)?;
-    writer.begin_array()?;
-    for policy in valued.policies {
-        let value = PolicyValue {
-            policy: *policy,
-            profile: valued.profile,
-            naming: Naming::Dds,
-        };
-        text.clear();
-        write!(text, "{value}")?;
-        writer.string(text)?;
+    let value = PolicyValue {
+        policy,
+        profile,
+        naming: Naming::Dds,
+    };
+    let mut text = String::new(alloc);
+    write!(text, "{value}")?;
+    Ok(Value::Text(text))
+}
+
+/// What an endpoint has of policies.
+#[tactic(auto, using(crate::proofs::ValueLemmas::one_more))]
+fn policy_values(policies: &[Policy], profile: &Profile<'_>, alloc: Global) -> Made<Value>
+    ensures { IfOk result (λ value. value_json value ≡ values_json policies.now (profile_value profile.now)) }
+{
+    let mut values = Vec::new(alloc);
+    for policy in policies {
+        values.push(policy_value(*policy, profile, alloc)?)?;
     }
-    writer.end_array()
+    Ok(array(values))
 }
 
-fn push_unmatched(
-    writer: &mut Writer,
-    text: &mut String,
-    one: &Unmatched<'_>,
-) -> Result<(), AllocError>
-    ensures tokens { OnOk result (writer.new.tokens ≡ writer.old.tokens ++ json_tokens (talk_members_spec.unmatched_json (unmatched_spec.unmatched_value one.now))) }
-    ensures before { writer.new.before ≡ writer.old.before }
+fn unmatched_object(one: &Unmatched<'_>, alloc: Global) -> Made<Value>
+    ensures { IfOk result (λ value. value_json value ≡ unmatched_json (unmatched_value one.now)) }
 {
-    let offered = Valued {
-        policies: &one.reasons,
-        profile: &one.writer,
-    };
-    let requested = Valued {
-        policies: &one.reasons,
-        profile: &one.reader,
-    };
-    writer.begin_object()?;
-    push_name(writer, text, "topic", one.writer.endpoint.topic)?;
-    push_guid(writer, text, "writer", one.writer.endpoint.guid)?;
-    push_guid(writer, text, "reader", one.reader.endpoint.guid)?;
-    push_reasons(writer, text, &one.reasons)?;
-    push_values(writer, text, "offered", offered)?;
-    push_values(writer, text, "requested", requested)?;
-    writer.end_object()
+    let because = reasons(&one.reasons, alloc)?;
+    let offered = policy_values(&one.reasons, &one.writer, alloc)?;
+    let requested = policy_values(&one.reasons, &one.reader, alloc)?;
+    let topic = name(one.writer.endpoint.topic, alloc)?;
+    let members = vec![in alloc;
+        ("topic", topic),
+        ("writer", Value::Guid(one.writer.endpoint.guid)),
+        ("reader", Value::Guid(one.reader.endpoint.guid)),
+        ("because", because),
+        ("offered", offered),
+        ("requested", requested),
+    ]?;
+    Ok(object(members))
 }
 
-fn push_all_unmatched(
-    writer: &mut Writer,
-    text: &mut String,
-    unmatched: &[Unmatched<'_>],
-) -> Result<(), AllocError>
-    ensures tokens { OnOk result (writer.new.tokens ≡ writer.old.tokens ++ json_text.tokens_of_member (talk_members_spec.unmatched_member (map unmatched_spec.unmatched_value unmatched.now))) }
-    ensures before { writer.new.before ≡ writer.old.before }
+#[tactic(auto, using(crate::proofs::ValueLemmas::one_more))]
+fn unmatched_member(unmatched: &[Unmatched<'_>], alloc: Global) -> Made<Member>
+    ensures { IfOk result (λ member. member_json member ≡ of_talk.unmatched_member (map unmatched_value unmatched.now)) }
 {
-    writer.key("unmatched")?;
-    writer.begin_array()?;
+    let mut values = Vec::new(alloc);
     for one in unmatched {
-        push_unmatched(writer, text, one)?;
+        values.push(unmatched_object(one, alloc)?)?;
     }
-    writer.end_array()
+    Ok(("unmatched", array(values)))
 }
 
-fn push_talking(
-    writer: &mut Writer,
-    text: &mut String,
-    one: &Unmatched<'_>,
-) -> Result<(), AllocError>
-    ensures tokens { OnOk result (writer.new.tokens ≡ writer.old.tokens ++ json_tokens (talk_members_spec.talking_json (unmatched_spec.unmatched_value one.now))) }
-    ensures before { writer.new.before ≡ writer.old.before }
+fn talking_object(one: &Unmatched<'_>, alloc: Global) -> Made<Value>
+    ensures { IfOk result (λ value. value_json value ≡ talking_json (unmatched_value one.now)) }
 {
-    writer.begin_object()?;
-    push_name(writer, text, "topic", one.writer.endpoint.topic)?;
-    push_guid(writer, text, "writer", one.writer.endpoint.guid)?;
-    push_guid(writer, text, "reader", one.reader.endpoint.guid)?;
-    push_reasons(writer, text, &one.reasons)?;
-    writer.end_object()
+    let because = reasons(&one.reasons, alloc)?;
+    let topic = name(one.writer.endpoint.topic, alloc)?;
+    let members = vec![in alloc;
+        ("topic", topic),
+        ("writer", Value::Guid(one.writer.endpoint.guid)),
+        ("reader", Value::Guid(one.reader.endpoint.guid)),
+        ("because", because),
+    ]?;
+    Ok(object(members))
 }
 
-fn push_all_talking(
-    writer: &mut Writer,
-    text: &mut String,
-    talking: &[Unmatched<'_>],
-) -> Result<(), AllocError>
-    ensures tokens { OnOk result (writer.new.tokens ≡ writer.old.tokens ++ json_text.tokens_of_member (talk_members_spec.talking_member (map unmatched_spec.unmatched_value talking.now))) }
-    ensures before { writer.new.before ≡ writer.old.before }
+#[tactic(auto, using(crate::proofs::ValueLemmas::one_more))]
+fn talking_member(talking: &[Unmatched<'_>], alloc: Global) -> Made<Member>
+    ensures { IfOk result (λ member. member_json member ≡ of_talk.talking_member (map unmatched_value talking.now)) }
 {
-    writer.key("talking")?;
-    writer.begin_array()?;
+    let mut values = Vec::new(alloc);
     for one in talking {
-        push_talking(writer, text, one)?;
+        values.push(talking_object(one, alloc)?)?;
     }
-    writer.end_array()
+    Ok(("talking", array(values)))
 }
 
 /// Why a pair is silent, in a word.
 #[tactic(auto, unfolding(crate::specs::TalkMembers::silence_name))]
 fn silence_name(silence: Silence) -> &'static str
-    ensures { result.now ≡ talk_members_spec.silence_name silence }
+    ensures { result.now ≡ of_talk.silence_name silence }
 {
     match silence {
         Silence::OneParticipant => "one participant",
@@ -164,162 +140,123 @@ fn silence_name(silence: Silence) -> &'static str
     }
 }
 
-fn push_unobserved(
-    writer: &mut Writer,
-    text: &mut String,
-    one: &LeftOut<'_>,
-    silence: Silence,
-) -> Result<(), AllocError>
-    ensures tokens { OnOk result (writer.new.tokens ≡ writer.old.tokens ++ json_tokens (talk_members_spec.unobserved_json silence (talk_spec.left_out_value one.now))) }
-    ensures before { writer.new.before ≡ writer.old.before }
+fn unobserved_object(one: &LeftOut<'_>, silence: Silence, alloc: Global) -> Made<Value>
+    ensures { IfOk result (λ value. value_json value ≡ unobserved_json silence (left_out_value one.now)) }
 {
-    writer.begin_object()?;
-    push_name(writer, text, "topic", one.topic)?;
-    push_guid(writer, text, "writer", one.pair.writer)?;
-    push_guid(writer, text, "reader", one.pair.reader)?;
-    push_text(writer, "because", silence_name(silence))?;
-    writer.end_object()
+    let topic = name(one.topic, alloc)?;
+    let members = vec![in alloc;
+        ("topic", topic),
+        ("writer", Value::Guid(one.pair.writer)),
+        ("reader", Value::Guid(one.pair.reader)),
+        ("because", Value::Word(silence_name(silence))),
+    ]?;
+    Ok(object(members))
 }
 
-fn push_all_unobserved(
-    writer: &mut Writer,
-    text: &mut String,
-    talk: &Talk<'_>,
-) -> Result<(), AllocError>
-    ensures tokens { OnOk result (writer.new.tokens ≡ writer.old.tokens
-        ++ json_text.tokens_of_member (talk_members_spec.unobserved_member (talk_spec.talk_value talk.now).silence (talk_spec.talk_value talk.now).left_out)) }
-    ensures before { writer.new.before ≡ writer.old.before }
+#[tactic(auto, using(crate::proofs::ValueLemmas::one_more))]
+fn unobserved_member(talk: &Talk<'_>, alloc: Global) -> Made<Member>
+    ensures { IfOk result (λ member. member_json member ≡ of_talk.unobserved_member (talk_value talk.now).silence (talk_value talk.now).left_out) }
 {
-    writer.key("unobserved")?;
-    writer.begin_array()?;
+    let mut values = Vec::new(alloc);
     for one in &talk.left_out {
-        push_unobserved(writer, text, one, talk.silence(one.pair))?;
+        values.push(unobserved_object(one, talk.silence(one.pair), alloc)?)?;
     }
-    writer.end_array()
+    Ok(("unobserved", array(values)))
 }
 
-fn push_one_way(writer: &mut Writer, text: &mut String, one: OneWay) -> Result<(), AllocError>
-    ensures tokens { OnOk result (writer.new.tokens ≡ writer.old.tokens ++ json_tokens (talk_members_spec.one_way_json one)) }
-    ensures before { writer.new.before ≡ writer.old.before }
+fn one_way_object(one: OneWay, alloc: Global) -> Made<Value>
+    ensures { IfOk result (λ value. value_json value ≡ one_way_json one) }
 {
-    writer.begin_object()?;
-    push_guid(writer, text, "from", participant_of(one.naming.source))?;
-    push_guid(writer, text, "to", participant_of(one.naming.dest))?;
-    push_count(writer, "named", one.count)?;
-    writer.end_object()
+    let members = vec![in alloc;
+        ("from", Value::Guid(participant_of(one.naming.source))),
+        ("to", Value::Guid(participant_of(one.naming.dest))),
+        ("named", Value::Count(one.count)),
+    ]?;
+    Ok(object(members))
 }
 
-fn push_all_one_way(
-    writer: &mut Writer,
-    text: &mut String,
-    one_way: &[OneWay],
-) -> Result<(), AllocError>
-    ensures tokens { OnOk result (writer.new.tokens ≡ writer.old.tokens ++ json_text.tokens_of_member (talk_members_spec.one_way_member one_way.now)) }
-    ensures before { writer.new.before ≡ writer.old.before }
+#[tactic(auto, using(crate::proofs::ValueLemmas::one_more))]
+fn one_way_member(one_way: &[OneWay], alloc: Global) -> Made<Member>
+    ensures { IfOk result (λ member. member_json member ≡ of_talk.one_way_member one_way.now) }
 {
-    writer.key("one_way")?;
-    writer.begin_array()?;
+    let mut values = Vec::new(alloc);
     for one in one_way {
-        push_one_way(writer, text, *one)?;
+        values.push(one_way_object(*one, alloc)?)?;
     }
-    writer.end_array()
+    Ok(("one_way", array(values)))
 }
 
-fn push_best_effort(
-    writer: &mut Writer,
-    text: &mut String,
-    sum: &BestEffort<'_>,
-) -> Result<(), AllocError>
-    ensures tokens { OnOk result (writer.new.tokens ≡ writer.old.tokens ++ json_tokens (talk_members_spec.best_effort_json (best_efforts.best_effort_value sum.now))) }
-    ensures before { writer.new.before ≡ writer.old.before }
+fn best_effort_object(sum: &BestEffort<'_>, alloc: Global) -> Made<Value>
+    ensures { IfOk result (λ value. value_json value ≡ best_effort_json (best_effort_value sum.now)) }
 {
-    writer.begin_object()?;
-    push_name(writer, text, "topic", sum.topic)?;
-    push_count(writer, "pairs", sum.pairs)?;
-    push_total(writer, "numbers", sum.numbers)?;
-    push_total(writer, "recorded", sum.recorded)?;
-    writer.end_object()
+    let topic = name(sum.topic, alloc)?;
+    let members = vec![in alloc;
+        ("topic", topic),
+        ("pairs", Value::Count(sum.pairs)),
+        ("numbers", Value::Total(sum.numbers)),
+        ("recorded", Value::Total(sum.recorded)),
+    ]?;
+    Ok(object(members))
 }
 
-fn push_all_best_effort(
-    writer: &mut Writer,
-    text: &mut String,
-    sums: &[BestEffort<'_>],
-) -> Result<(), AllocError>
-    ensures tokens { OnOk result (writer.new.tokens ≡ writer.old.tokens ++ json_text.tokens_of_member (talk_members_spec.best_effort_member (map best_efforts.best_effort_value sums.now))) }
-    ensures before { writer.new.before ≡ writer.old.before }
+#[tactic(auto, using(crate::proofs::ValueLemmas::one_more))]
+fn best_effort_member(sums: &[BestEffort<'_>], alloc: Global) -> Made<Member>
+    ensures { IfOk result (λ member. member_json member ≡ of_talk.best_effort_member (map best_effort_value sums.now)) }
 {
-    writer.key("best_effort")?;
-    writer.begin_array()?;
+    let mut values = Vec::new(alloc);
     for sum in sums {
-        push_best_effort(writer, text, sum)?;
+        values.push(best_effort_object(sum, alloc)?)?;
     }
-    writer.end_array()
+    Ok(("best_effort", array(values)))
 }
 
-fn push_held(writer: &mut Writer, text: &mut String, one: &HeldPair<'_>) -> Result<(), AllocError>
-    ensures tokens { OnOk result (writer.new.tokens ≡ writer.old.tokens ++ json_tokens (talk_members_spec.held_json (best_efforts.held_value one.now))) }
-    ensures before { writer.new.before ≡ writer.old.before }
+fn held_object(one: &HeldPair<'_>, alloc: Global) -> Made<Value>
+    ensures { IfOk result (λ value. value_json value ≡ held_json (held_value one.now)) }
 {
-    writer.begin_object()?;
-    push_name(writer, text, "topic", one.topic)?;
-    push_guid(writer, text, "writer", one.pair.writer)?;
-    push_guid(writer, text, "reader", one.pair.reader)?;
-    push_count(writer, "numbers", one.numbers)?;
-    push_count(writer, "arrived", one.arrived.arrived)?;
-    writer.key("not_arrived")?;
-    push_numbers(writer, one.arrived.lacking.as_slice())?;
-    writer.end_object()
+    let topic = name(one.topic, alloc)?;
+    let lacking = Vec::from_slice(alloc, one.arrived.lacking.as_slice())?;
+    let members = vec![in alloc;
+        ("topic", topic),
+        ("writer", Value::Guid(one.pair.writer)),
+        ("reader", Value::Guid(one.pair.reader)),
+        ("numbers", Value::Count(one.numbers)),
+        ("arrived", Value::Count(one.arrived.arrived)),
+        ("not_arrived", Value::Counts(lacking)),
+    ]?;
+    Ok(object(members))
 }
 
-fn push_all_held(
-    writer: &mut Writer,
-    text: &mut String,
-    held: &[HeldPair<'_>],
-) -> Result<(), AllocError>
-    ensures tokens { OnOk result (writer.new.tokens ≡ writer.old.tokens ++ json_text.tokens_of_member (talk_members_spec.held_member (map best_efforts.held_value held.now))) }
-    ensures before { writer.new.before ≡ writer.old.before }
+#[tactic(auto, using(crate::proofs::ValueLemmas::one_more))]
+fn held_member(held: &[HeldPair<'_>], alloc: Global) -> Made<Member>
+    ensures { IfOk result (λ member. member_json member ≡ of_talk.held_member (map held_value held.now)) }
 {
-    writer.key("arrived")?;
-    writer.begin_array()?;
+    let mut values = Vec::new(alloc);
     for one in held {
-        push_held(writer, text, one)?;
+        values.push(held_object(one, alloc)?)?;
     }
-    writer.end_array()
+    Ok(("arrived", array(values)))
 }
 
-/// Appends what arrived of pairs of best effort, where there is another recording.
-fn push_arrived(
-    writer: &mut Writer,
-    text: &mut String,
-    held: &[HeldPair<'_>],
-    has_other: bool,
-) -> Result<(), AllocError>
-    ensures tokens { OnOk result (writer.new.tokens ≡ writer.old.tokens ++ json_text.tokens_of (talk_members_spec.held_members has_other (map best_efforts.held_value held.now))) }
-    ensures before { writer.new.before ≡ writer.old.before }
+/// What arrived of pairs of best effort, where there is another recording.
+fn held_members(held: &[HeldPair<'_>], has_other: bool, alloc: Global) -> Made<Members>
+    ensures { IfOk result (λ members. members_json members.items ≡ of_talk.held_members has_other (map held_value held.now)) }
 {
-    if has_other {
-        push_all_held(writer, text, held)
-    } else {
-        Ok(())
+    if !has_other {
+        return Ok(Vec::new(alloc));
     }
+    Ok(vec![in alloc; held_member(held, alloc)?]?)
 }
 
-pub(crate) fn push_address(
-    writer: &mut Writer,
-    text: &mut String,
-    address: Option<Address>,
-) -> Result<(), AllocError>
-    ensures tokens { OnOk result (writer.new.tokens ≡ writer.old.tokens ++ key (codes "address") ∷ json_tokens (address_members.address_json address)) }
-    ensures before { writer.new.before ≡ writer.old.before }
+/// An address; null where none is known.
+pub(crate) fn address_value(address: Option<Address>, alloc: Global) -> Made<Value>
+    ensures { IfOk result (λ value. value_json value ≡ address_json address) }
 {
-    writer.key("address")?;
     let Some(address) = address else {
-        return writer.null();
+        return Ok(Value::Null);
     };
-    text.clear();
+    let mut text = String::new(alloc);
     write!(text, "{address}")?;
-    writer.string(text)
+    Ok(Value::Text(text))
 }
 
 /// The number of a domain.
@@ -352,155 +289,107 @@ fn last_of(stay: Option<Stay>) -> Option<u64>
     }
 }
 
-/// Appends whether a participant is silent; nothing where the recording has no times.
-fn push_silent(writer: &mut Writer, silent: bool, times: &Times) -> Result<(), AllocError>
-    ensures tokens { OnOk result (writer.new.tokens
-        ≡ writer.old.tokens ++ json_text.tokens_of (json_text.timed_members times.now ((codes "silent", boolean silent) ∷ []))) }
-    ensures before { writer.new.before ≡ writer.old.before }
+/// When the datagrams came of which it is told, and whether the participant is silent; nothing where the recording has no times.
+fn stay_times(participant: &Participant, clock: Clock<'_>) -> Made<Members>
+    ensures { IfOk result (λ members. members_json members.items ≡ of_talk.stay_times (clock_times clock.entry) participant.now) }
 {
-    if !times.are_there() {
-        return Ok(());
+    let first = first_of(participant.stay);
+    let last = last_of(participant.stay);
+    let members = vec![in clock.alloc;
+        second_member("first_time", first, clock),
+        second_member("last_time", last, clock),
+        second_member("left_time", participant.left, clock),
+        frame_member("first_frame", first, clock),
+        frame_member("last_frame", last, clock),
+        frame_member("left_frame", participant.left, clock),
+        ("silent", Value::Flag(participant.silent)),
+    ]?;
+    Ok(timed(members, clock))
+}
+
+/// From when to when there is something of a participant, and where it leaves.
+fn stay_members(participant: &Participant, clock: Clock<'_>) -> Made<Members>
+    ensures { IfOk result (λ members. members_json members.items ≡ of_talk.stay_members (clock_times clock.entry) participant.now) }
+{
+    let members = vec![in clock.alloc;
+        ("first", some_count(first_of(participant.stay))),
+        ("last", some_count(last_of(participant.stay))),
+        ("left", some_count(participant.left)),
+    ]?;
+    joined(members, stay_times(participant, clock)?)
+}
+
+/// The process of a participant, and its nodes.
+fn named_members(participant: &Participant, talk: &Talk<'_>, alloc: Global) -> Made<Members>
+    ensures { IfOk result (λ members. members_json members.items ≡ of_talk.named_members (talk_value talk.now) participant.now) }
+{
+    let end = talk.end(participant.guid);
+    let nodes = talk.nodes(alloc, participant.guid.prefix)?;
+    let named = vec![in alloc; nodes_member(&nodes, alloc)?]?;
+    joined(process_members(&end.process, alloc)?, named)
+}
+
+/// Where a participant is, and when there is something of it.
+fn placed_members(participant: &Participant, clock: Clock<'_>) -> Made<Members>
+    ensures { IfOk result (λ members. members_json members.items ≡ of_talk.placed_members (clock_times clock.entry) participant.now) }
+{
+    let address = address_value(participant.host.address, clock.alloc)?;
+    let members = vec![in clock.alloc;
+        ("guid", Value::Guid(participant.guid)),
+        ("address", address),
+        ("domain", some_count(domain_number(participant.host.domain))),
+    ]?;
+    joined(members, stay_members(participant, clock)?)
+}
+
+fn participant_object(participant: &Participant, talk: &Talk<'_>, clock: Clock<'_>) -> Made<Value>
+    ensures { IfOk result (λ value. value_json value ≡ participant_json (talk_value talk.now) (clock_times clock.entry) participant.now) }
+{
+    let named = named_members(participant, talk, clock.alloc)?;
+    Ok(object(joined(placed_members(participant, clock)?, named)?))
+}
+
+#[tactic(auto, using(crate::proofs::ValueLemmas::one_more))]
+fn participants_member(talk: &Talk<'_>, clock: Clock<'_>) -> Made<Member>
+    ensures { IfOk result (λ member. member_json member ≡ of_talk.participants_member (clock_times clock.entry) (talk_value talk.now)) }
+{
+    let mut values = Vec::new(clock.alloc);
+    for participant in &talk.participants {
+        values.push(participant_object(participant, talk, clock)?)?;
     }
-    push_flag(writer, "silent", silent)
-}
-
-/// Appends when the datagrams came of which it is told, and whether the participant is silent; nothing where the recording has no times.
-fn push_stay_times(
-    writer: &mut Writer,
-    participant: &Participant,
-    clock: Clock<'_>,
-) -> Result<(), AllocError>
-    ensures tokens { OnOk result (writer.new.tokens ≡ writer.old.tokens ++ json_text.tokens_of (talk_members_spec.stay_times (json_text.clock_times clock.entry) participant.now)) }
-    ensures before { writer.new.before ≡ writer.old.before }
-{
-    push_timed(writer, "first_time", first_of(participant.stay), clock)?;
-    push_timed(writer, "last_time", last_of(participant.stay), clock)?;
-    push_timed(writer, "left_time", participant.left, clock)?;
-    push_framed(writer, "first_frame", first_of(participant.stay), clock)?;
-    push_framed(writer, "last_frame", last_of(participant.stay), clock)?;
-    push_framed(writer, "left_frame", participant.left, clock)?;
-    push_silent(writer, participant.silent, clock.times)
-}
-
-/// Appends from when to when there is something of a participant, and where it leaves.
-fn push_stay(
-    writer: &mut Writer,
-    participant: &Participant,
-    clock: Clock<'_>,
-) -> Result<(), AllocError>
-    ensures tokens { OnOk result (writer.new.tokens ≡ writer.old.tokens ++ json_text.tokens_of (talk_members_spec.stay_members (json_text.clock_times clock.entry) participant.now)) }
-    ensures before { writer.new.before ≡ writer.old.before }
-{
-    push_optional(writer, "first", first_of(participant.stay))?;
-    push_optional(writer, "last", last_of(participant.stay))?;
-    push_optional(writer, "left", participant.left)?;
-    push_stay_times(writer, participant, clock)
-}
-
-/// By what participants are told.
-#[derive(Clone, Copy)]
-struct Presented<'t, 'a> {
-    talk: &'t Talk<'a>,
-    clock: Clock<'t>,
-}
-
-/// Appends the process of a participant, and its nodes.
-fn push_named(
-    writer: &mut Writer,
-    text: &mut String,
-    participant: &Participant,
-    by: Presented<'_, '_>,
-) -> Result<(), AllocError>
-    ensures tokens { OnOk result (writer.new.tokens
-        ≡ writer.old.tokens ++ json_text.tokens_of (talk_members_spec.named_members (talk_spec.talk_value by.entry.talk.now) participant.now)) }
-    ensures before { writer.new.before ≡ writer.old.before }
-{
-    let end = by.talk.end(participant.guid);
-    let nodes = by.talk.nodes(by.clock.alloc, participant.guid.prefix)?;
-    push_process(writer, text, &end.process)?;
-    push_node_names(writer, text, &nodes)
-}
-
-/// Appends where a participant is, and when there is something of it.
-fn push_placed(
-    writer: &mut Writer,
-    text: &mut String,
-    participant: &Participant,
-    clock: Clock<'_>,
-) -> Result<(), AllocError>
-    ensures tokens { OnOk result (writer.new.tokens
-        ≡ writer.old.tokens ++ json_text.tokens_of (talk_members_spec.placed_members (json_text.clock_times clock.entry) participant.now)) }
-    ensures before { writer.new.before ≡ writer.old.before }
-{
-    let domain = domain_number(participant.host.domain);
-    push_guid(writer, text, "guid", participant.guid)?;
-    push_address(writer, text, participant.host.address)?;
-    push_optional(writer, "domain", domain)?;
-    push_stay(writer, participant, clock)
-}
-
-fn push_participant(
-    writer: &mut Writer,
-    text: &mut String,
-    participant: &Participant,
-    by: Presented<'_, '_>,
-) -> Result<(), AllocError>
-    ensures tokens { OnOk result (writer.new.tokens
-        ≡ writer.old.tokens ++ json_tokens (talk_members_spec.participant_json (talk_spec.talk_value by.entry.talk.now) (json_text.clock_times by.entry.clock) participant.now)) }
-    ensures before { writer.new.before ≡ writer.old.before }
-{
-    writer.begin_object()?;
-    push_placed(writer, text, participant, by.clock)?;
-    push_named(writer, text, participant, by)?;
-    writer.end_object()
-}
-
-fn push_all_participants(
-    writer: &mut Writer,
-    text: &mut String,
-    by: Presented<'_, '_>,
-) -> Result<(), AllocError>
-    ensures tokens { OnOk result (writer.new.tokens
-        ≡ writer.old.tokens ++ json_text.tokens_of_member (talk_members_spec.participants_member (json_text.clock_times by.entry.clock) (talk_spec.talk_value by.entry.talk.now))) }
-    ensures before { writer.new.before ≡ writer.old.before }
-{
-    writer.key("participants")?;
-    writer.begin_array()?;
-    for participant in &by.talk.participants {
-        push_participant(writer, text, participant, by)?;
-    }
-    writer.end_array()
+    Ok(("participants", array(values)))
 }
 
 /// Whether there is another recording.
 pub(crate) fn has_other(report: &FullReport<'_>) -> bool
-    ensures { result ≡ is_some (full_report.report_value report.now).arrived }
+    ensures { result ≡ is_some (report_value report.now).arrived }
 {
     report.arrived.is_some()
 }
 
-/// Appends who does not talk.
-pub(crate) fn push_talk_members(
-    alloc: Global,
-    writer: &mut Writer,
-    report: &FullReport<'_>,
-) -> Result<(), AllocError>
-    ensures tokens { OnOk result (writer.new.tokens ≡ writer.old.tokens ++ json_text.tokens_of (talk_members_spec.talk_members report.now.recording.now.times (full_report.report_value report.now))) }
-    ensures before { writer.new.before ≡ writer.old.before }
+/// Who does not match, who talks all the same, and of whom the recording cannot speak.
+fn silent_members(talk: &Talk<'_>, alloc: Global) -> Made<Members>
+    ensures { IfOk result (λ members. members_json members.items
+        ≡ of_talk.unmatched_member (talk_value talk.now).unmatched ∷ of_talk.talking_member (talk_value talk.now).talking
+        ∷ of_talk.unobserved_member (talk_value talk.now).silence (talk_value talk.now).left_out ∷ of_talk.one_way_member (talk_value talk.now).one_way ∷ []) }
 {
-    let mut text = String::new(alloc);
+    let unmatched = unmatched_member(&talk.unmatched, alloc)?;
+    let talking = talking_member(&talk.talking, alloc)?;
+    let unobserved = unobserved_member(talk, alloc)?;
+    let one_way = one_way_member(&talk.one_way, alloc)?;
+    Ok(vec![in alloc; unmatched, talking, unobserved, one_way]?)
+}
+
+/// Who does not talk.
+pub(crate) fn talk_members(report: &FullReport<'_>, clock: Clock<'_>) -> Made<Members>
+    ensures { IfOk result (λ members. members_json members.items ≡ of_talk.talk_members (clock_times clock.entry) (report_value report.now)) }
+{
+    let alloc = clock.alloc;
     let talk = &report.talk;
-    let clock = Clock {
-        times: report.recording.times(),
-        alloc,
-        framed: true,
-    };
-    push_all_unmatched(writer, &mut text, &talk.unmatched)?;
-    push_all_talking(writer, &mut text, &talk.talking)?;
-    push_all_unobserved(writer, &mut text, talk)?;
-    push_all_one_way(writer, &mut text, &talk.one_way)?;
-    push_discovery_members(writer, &mut text, report, clock)?;
-    push_all_best_effort(writer, &mut text, &talk.best_effort)?;
-    push_arrived(writer, &mut text, &talk.held, has_other(report))?;
-    push_all_participants(writer, &mut text, Presented { talk, clock })
+    let members = vec![in alloc; participants_member(talk, clock)?]?;
+    let members = joined(held_members(&talk.held, has_other(report), alloc)?, members)?;
+    let best_effort = vec![in alloc; best_effort_member(&talk.best_effort, alloc)?]?;
+    let members = joined(best_effort, members)?;
+    let members = joined(discovery_members(report, clock)?, members)?;
+    joined(silent_members(talk, alloc)?, members)
 }

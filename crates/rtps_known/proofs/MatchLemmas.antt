@@ -7,13 +7,13 @@ use Rattle.std.specs.Option.{option_or}
 use Rattle.std.proofs.lemmas.List.Elements.{filter_map-append}
 use Rattle.rtps_ids.specs.declared.identity.Guid.{Guid}
 use Rattle.rtps_ids.specs.declared.identity.GuidPrefix.{GuidPrefix}
-use Rattle.rtps_discovery.specs.GuidOrder.{guid_cmp}
-use Rattle.rtps_policies.specs.Announcing.{first_of}
-use Rattle.rtps_policies.specs.Told.{KeepsFirst}
-use Rattle.rtps_known.specs.Bulletins.{prefix_cmp}
-use Rattle.rtps_known.specs.Learning.{Inquiry, claims, learned}
-use Rattle.rtps_known.specs.Places.{PlacedAct, place_of}
-use Rattle.rtps_known.specs.Spreads.{IsQuietIn, IsSpreadOf, TellsTheSame, inquiry_of}
+use Rattle.rtps_discovery.specs.GuidOrder as guid_order
+use Rattle.rtps_policies.specs.Announcing as announcing
+use Rattle.rtps_policies.specs.Told as told_spec
+use Rattle.rtps_known.specs.Bulletins as bulletins
+use Rattle.rtps_known.specs.Learning as learning
+use Rattle.rtps_known.specs.Places as places
+use Rattle.rtps_known.specs.Spreads as spreads
 use Rattle.rtps_known.specs.declared.spread.Spread.{Spread}
 
 -- ---- the first value of a GUID
@@ -31,37 +31,37 @@ nothing_more : {X : Type 0} (one : Option X) → option_or one None ≡ one
 nothing_more None = refl
 nothing_more (Some x) = refl
 
-told_more : {X : Type 0} (tells : PlacedAct → Option (Guid × X)) (acts : List PlacedAct) (placed : PlacedAct) (guid : Guid)
-    → first_of guid (filter_map tells (acts ++ placed ∷ [])) ≡ option_or (first_of guid (filter_map tells acts)) (first_of guid (cons_option (tells placed) []))
+told_more : {X : Type 0} (tells : places.PlacedAct → Option (Guid × X)) (acts : List places.PlacedAct) (placed : places.PlacedAct) (guid : Guid)
+    → announcing.first_of guid (filter_map tells (acts ++ placed ∷ [])) ≡ option_or (announcing.first_of guid (filter_map tells acts)) (announcing.first_of guid (cons_option (tells placed) []))
 told_more tells acts placed guid =
-    ap (first_of guid) (filter_map-append tells acts (placed ∷ [])) ∙ lookup_append (is_at (guid_cmp guid)) (filter_map tells acts) (cons_option (tells placed) [])
+    ap (announcing.first_of guid) (filter_map-append tells acts (placed ∷ [])) ∙ lookup_append (is_at (guid_order.guid_cmp guid)) (filter_map tells acts) (cons_option (tells placed) [])
 
 -- an act tells one
-pub first_more : {X : Type 0} (tells : PlacedAct → Option (Guid × X)) (acts : List PlacedAct) (placed : PlacedAct) (old new : List (Guid × X)) (told : Guid × X) → Some told ≡ tells placed
-    → KeepsFirst old new told.0 told.1 → ((guid : Guid) → first_of guid old ≡ first_of guid (filter_map tells acts))
-    → (guid : Guid) → first_of guid new ≡ first_of guid (filter_map tells (acts ++ placed ∷ []))
+pub first_more : {X : Type 0} (tells : places.PlacedAct → Option (Guid × X)) (acts : List places.PlacedAct) (placed : places.PlacedAct) (old new : List (Guid × X)) (told : Guid × X) → Some told ≡ tells placed
+    → told_spec.KeepsFirst old new told.0 told.1 → ((guid : Guid) → announcing.first_of guid old ≡ announcing.first_of guid (filter_map tells acts))
+    → (guid : Guid) → announcing.first_of guid new ≡ announcing.first_of guid (filter_map tells (acts ++ placed ∷ []))
 first_more tells acts placed old new told is kept were guid =
-    kept guid ∙ ap (λ o. option_or o (first_of guid (told ∷ []))) (were guid)
-    ∙ ap (λ t. option_or (first_of guid (filter_map tells acts)) (first_of guid (cons_option t []))) is ∙ sym (told_more tells acts placed guid)
+    kept guid ∙ ap (λ o. option_or o (announcing.first_of guid (told ∷ []))) (were guid)
+    ∙ ap (λ t. option_or (announcing.first_of guid (filter_map tells acts)) (announcing.first_of guid (cons_option t []))) is ∙ sym (told_more tells acts placed guid)
 
 -- an act tells none
-pub first_same : {X : Type 0} (tells : PlacedAct → Option (Guid × X)) (acts : List PlacedAct) (placed : PlacedAct) (old : List (Guid × X)) → None ≡ tells placed
-    → ((guid : Guid) → first_of guid old ≡ first_of guid (filter_map tells acts)) → (guid : Guid) → first_of guid old ≡ first_of guid (filter_map tells (acts ++ placed ∷ []))
+pub first_same : {X : Type 0} (tells : places.PlacedAct → Option (Guid × X)) (acts : List places.PlacedAct) (placed : places.PlacedAct) (old : List (Guid × X)) → None ≡ tells placed
+    → ((guid : Guid) → announcing.first_of guid old ≡ announcing.first_of guid (filter_map tells acts)) → (guid : Guid) → announcing.first_of guid old ≡ announcing.first_of guid (filter_map tells (acts ++ placed ∷ []))
 first_same tells acts placed old none were guid =
-    were guid ∙ sym (nothing_more (first_of guid (filter_map tells acts)))
-    ∙ ap (λ t. option_or (first_of guid (filter_map tells acts)) (first_of guid (cons_option t []))) none ∙ sym (told_more tells acts placed guid)
+    were guid ∙ sym (nothing_more (announcing.first_of guid (filter_map tells acts)))
+    ∙ ap (λ t. option_or (announcing.first_of guid (filter_map tells acts)) (announcing.first_of guid (cons_option t []))) none ∙ sym (told_more tells acts placed guid)
 
 -- ---- what is kept tells
 
-learned_same : (inquiry : Inquiry) (one other : List PlacedAct) → TellsTheSame inquiry one other → learned inquiry one ≡ learned inquiry other
+learned_same : (inquiry : learning.Inquiry) (one other : List places.PlacedAct) → spreads.TellsTheSame inquiry one other → learning.learned inquiry one ≡ learning.learned inquiry other
 learned_same inquiry one other same = ap₂ option_or same.again same.first
 
-pub learned_never : (acts : List PlacedAct) (writer : Guid) (prefix : GuidPrefix) (n : ℕ) → IsQuietIn writer acts → None ≡ learned (inquiry_of writer prefix n) acts
-learned_never acts writer prefix n were = learned_same (inquiry_of writer prefix n) [] acts (were prefix n)
+pub learned_never : (acts : List places.PlacedAct) (writer : Guid) (prefix : GuidPrefix) (n : ℕ) → spreads.IsQuietIn writer acts → None ≡ learning.learned (spreads.inquiry_of writer prefix n) acts
+learned_never acts writer prefix n were = learned_same (spreads.inquiry_of writer prefix n) [] acts (were prefix n)
 
-pub claimed_kept : (acts : List PlacedAct) (writer : Guid) (prefix : GuidPrefix) (spread : Spread) → IsSpreadOf writer acts spread
-    → get prefix_cmp spread.firsts prefix ≡ place_of (claims (inquiry_of writer prefix 1)) acts
+pub claimed_kept : (acts : List places.PlacedAct) (writer : Guid) (prefix : GuidPrefix) (spread : Spread) → spreads.IsSpreadOf writer acts spread
+    → get bulletins.prefix_cmp spread.firsts prefix ≡ places.place_of (learning.claims (spreads.inquiry_of writer prefix 1)) acts
 claimed_kept acts writer prefix spread were = were.firsts prefix
 
-pub claimed_never : (acts : List PlacedAct) (writer : Guid) (prefix : GuidPrefix) (n : ℕ) → IsQuietIn writer acts → None ≡ place_of (claims (inquiry_of writer prefix n)) acts
+pub claimed_never : (acts : List places.PlacedAct) (writer : Guid) (prefix : GuidPrefix) (n : ℕ) → spreads.IsQuietIn writer acts → None ≡ places.place_of (learning.claims (spreads.inquiry_of writer prefix n)) acts
 claimed_never acts writer prefix n were = (were prefix n).claimed

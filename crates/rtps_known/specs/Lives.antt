@@ -13,10 +13,9 @@ use Rattle.std.specs.declared.cmp.Ordering.{Ordering}
 use Rattle.rtps_ids.specs.declared.identity.GuidPrefix.{GuidPrefix}
 use Rattle.rtps_ids.specs.declared.identity.Stamp.{Stamp}
 use Rattle.rtps_ids.specs.declared.identity.Vendor.{Vendor}
-use Rattle.rtps_receiver.specs.Speech.{is_entity}
-use Rattle.rtps_receiver.specs.Values.{ActBodyValue, ActValue}
-use Rattle.rtps_receiver.specs.Values.ActBodyValue.{Data}
-use Rattle.rtps_known.specs.declared.layout.entity.TheConstants.{PARTICIPANTS}
+use Rattle.rtps_receiver.specs.Speech as speech
+use Rattle.rtps_receiver.specs.Values as values
+use Rattle.rtps_known.specs.declared.layout.entity.TheConstants as entity
 use Rattle.rtps_known.specs.declared.layout.vendor.TheConstants as vendor
 use Rattle.rtps_known.specs.declared.life.Birth.{Birth}
 use Rattle.rtps_known.specs.declared.life.Life.{Life}
@@ -27,8 +26,8 @@ abbrev pub is_tried : Vendor → Bool
 is_tried one = pointwise nat_eq one.0 vendor.CYCLONE.0 || pointwise nat_eq one.0 vendor.FAST.0
 
 -- the number of the writer that announces participants, in an act of this body
-abbrev pub number_announcing : ActBodyValue → Option ℕ
-number_announcing (Data value) = if is_entity value.writer PARTICIPANTS then Some value.number else None
+abbrev pub number_announcing : values.ActBodyValue → Option ℕ
+number_announcing (values.ActBodyValue.Data value) = if speech.is_entity value.writer entity.PARTICIPANTS then Some value.number else None
 number_announcing _ = None
 
 -- that number of a participant, and its source time, where there are both
@@ -37,7 +36,7 @@ birth_by prefix (Some number) (Some stamp) = Some (record { participant = prefix
 birth_by prefix _ _ = None
 
 -- that of an act, of a vendor for which it was tried
-abbrev pub birth_in : ActValue → Option (Birth × Stamp)
+abbrev pub birth_in : values.ActValue → Option (Birth × Stamp)
 birth_in act = if is_tried act.vendor then birth_by act.source (number_announcing act.body) act.stamp else None
 
 -- ---- the source times of a number
@@ -56,7 +55,7 @@ stamp_by birth (Some told) = if is_birth told.0 birth then Some told.1 else None
 stamp_by birth None = None
 
 -- the source time of this number in an act
-abbrev pub stamp_of : Birth → ActValue → Option Stamp
+abbrev pub stamp_of : Birth → values.ActValue → Option Stamp
 stamp_of birth act = stamp_by birth (birth_in act)
 
 -- two source times are the same
@@ -69,11 +68,11 @@ sent_by [] = None
 sent_by (first ∷ stamps) = Some (record { first = first; other = find (λ stamp. not (is_stamp first stamp)) stamps })
 
 -- the source times of a number
-abbrev pub stamps_of : Birth → List ActValue → List Stamp
+abbrev pub stamps_of : Birth → List values.ActValue → List Stamp
 stamps_of birth acts = filter_map (stamp_of birth) acts
 
 -- what is kept is the first source time of each number, and the first other one
-abbrev pub AreBirthsOf : List ActValue → List (Birth × Sent) → Type 0
+abbrev pub AreBirthsOf : List values.ActValue → List (Birth × Sent) → Type 0
 AreBirthsOf acts kept = (birth : Birth) → lookup (is_at (birth_cmp birth)) kept ≡ sent_by (stamps_of birth acts)
 
 -- ---- lives
@@ -84,7 +83,7 @@ two_of (Some sent) = option_map (λ other. (sent.first, other)) sent.other
 two_of None = None
 
 -- those of a number of a participant
-abbrev pub two_times : List ActValue → Birth → Option (Stamp × Stamp)
+abbrev pub two_times : List values.ActValue → Birth → Option (Stamp × Stamp)
 two_times acts birth = two_of (sent_by (stamps_of birth acts))
 
 -- the number that shows a life
@@ -92,12 +91,12 @@ abbrev pub birth_of : Life → Birth
 birth_of life = record { participant = life.participant; number = life.number }
 
 -- these are the numbers with two source times, in order
-pub record AreLivesOf (acts : List ActValue) (lives : List Life) : Type 0 where
+pub record AreLivesOf (acts : List values.ActValue) (lives : List Life) : Type 0 where
   pub ordered : IsStrictlySortedBy birth_cmp (map birth_of lives)
   pub times : (birth : Birth) → lookup (is_birth birth) (map (λ life. (birth_of life, life.sent)) lives) ≡ two_times acts birth
 
 -- a participant has two lives: some number of it has two source times
-abbrev pub HasTwoLives : List ActValue → GuidPrefix → Type 0
+abbrev pub HasTwoLives : List values.ActValue → GuidPrefix → Type 0
 HasTwoLives acts prefix = (number : ℕ) × IsSome (two_times acts (record { participant = prefix; number = number }))
 
 -- ---- the same of the code

@@ -2,12 +2,12 @@
 use Rattle.std.specs.Prelude.{◌==◌, ◌&&◌, ◌||◌, Bool, if◌then◌else◌, List, nat_lt, not, Option, Some, None, reverse}
 use Rattle.std.specs.List.{find, take_while}
 use Rattle.std.specs.Option.{option_map}
-use Rattle.rtps_receiver.specs.Values.{ActValue}
+use Rattle.rtps_receiver.specs.Values as values
 use Rattle.rtps_known.specs.declared.place.Place.{Place}
 
 -- an act in its place
 pub record PlacedAct : Type 0 where
-  pub act : ActValue
+  pub act : values.ActValue
   pub place : Place
 
 -- a place stands before another one: in an earlier datagram, or in front of it in the same

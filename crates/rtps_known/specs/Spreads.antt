@@ -9,21 +9,21 @@ use Rattle.std.specs.Ordering.{nat_cmp, ordering_then}
 use Rattle.std.specs.declared.cmp.Ordering.{Ordering}
 use Rattle.rtps_ids.specs.declared.identity.Guid.{Guid}
 use Rattle.rtps_ids.specs.declared.identity.GuidPrefix.{GuidPrefix}
-use Rattle.rtps_receiver.specs.Said.{said}
-use Rattle.rtps_receiver.specs.Speech.{is_prefix}
-use Rattle.rtps_receiver.specs.Values.{ActValue}
-use Rattle.rtps_discovery.specs.GuidOrder.{guid_cmp}
-use Rattle.rtps_known.specs.Bulletins.{prefix_cmp}
-use Rattle.rtps_known.specs.Learning.{Inquiry, base_in, claims, hears, heard_again, learned}
-use Rattle.rtps_known.specs.Places.{PlacedAct, place_of}
-use Rattle.rtps_known.specs.Tellings.{is_to, number_sent}
+use Rattle.rtps_receiver.specs.Said as said
+use Rattle.rtps_receiver.specs.Speech as speech
+use Rattle.rtps_receiver.specs.Values as values
+use Rattle.rtps_discovery.specs.GuidOrder as guid_order
+use Rattle.rtps_known.specs.Bulletins as bulletins
+use Rattle.rtps_known.specs.Learning as learning
+use Rattle.rtps_known.specs.Places as places
+use Rattle.rtps_known.specs.Tellings as tellings
 use Rattle.rtps_known.specs.declared.place.Place.{Place}
 use Rattle.rtps_known.specs.declared.sending.Hearing.{Hearing}
 use Rattle.rtps_known.specs.declared.sending.Sending.{Sending}
 use Rattle.rtps_known.specs.declared.spread.Spread.{Spread}
 
 -- a number of a writer, and a participant
-abbrev pub inquiry_of : Guid → GuidPrefix → ℕ → Inquiry
+abbrev pub inquiry_of : Guid → GuidPrefix → ℕ → learning.Inquiry
 inquiry_of writer prefix number = record { writer = writer; prefix = prefix; number = number }
 
 -- ---- what is kept of numbers
@@ -34,7 +34,7 @@ sending number dest = record { number = number; dest = dest }
 
 -- by number, and then by who is sent it
 abbrev pub sending_cmp : Sending → Sending → Ordering
-sending_cmp one other = ordering_then (nat_cmp one.number other.number) (option_cmp prefix_cmp one.dest other.dest)
+sending_cmp one other = ordering_then (nat_cmp one.number other.number) (option_cmp bulletins.prefix_cmp one.dest other.dest)
 
 -- where a participant is sent a number first, as it is kept: what it alone is sent is kept where it was not sent it before
 abbrev pub first_kept : BTreeMap Sending Place → GuidPrefix → ℕ → Option Place
@@ -46,51 +46,51 @@ again_kept again prefix n = get sending_cmp again (sending n (Some prefix))
 
 -- the greatest base that is kept of a participant
 abbrev pub base_kept : BTreeMap GuidPrefix ℕ → GuidPrefix → ℕ
-base_kept bases prefix = unwrap_or (get prefix_cmp bases prefix) 0
+base_kept bases prefix = unwrap_or (get bulletins.prefix_cmp bases prefix) 0
 
 -- ---- one act more
 
 -- the number that an act sends
-abbrev pub hearing_in : ActValue → Place → Option Hearing
-hearing_in act place = option_map (λ number. record { sending = sending number act.dest; place = place }) (number_sent act.body)
+abbrev pub hearing_in : values.ActValue → Place → Option Hearing
+hearing_in act place = option_map (λ number. record { sending = sending number act.dest; place = place }) (tellings.number_sent act.body)
 
 -- a participant is sent a number so
 abbrev pub hears_by : Sending → GuidPrefix → ℕ → Bool
-hears_by sent prefix n = (n == sent.number) && is_to sent.dest prefix
+hears_by sent prefix n = (n == sent.number) && tellings.is_to sent.dest prefix
 
 -- it is, and asks for it, and does not acknowledge it
 abbrev pub refills : BTreeSet GuidPrefix → BTreeMap GuidPrefix ℕ → Sending → GuidPrefix → ℕ → Bool
-refills askers bases sent prefix n = not (nat_lt n (base_kept bases prefix)) && (hears_by sent prefix n && contains prefix_cmp askers prefix)
+refills askers bases sent prefix n = not (nat_lt n (base_kept bases prefix)) && (hears_by sent prefix n && contains bulletins.prefix_cmp askers prefix)
 
 -- of a number that is asked for a place is kept where a condition holds and none was kept
 abbrev pub filled : Bool → Place → Option (Option Place) → Option (Option Place)
 filled holds place kept = if holds then option_map (λ again. option_or again (Some place)) kept else kept
 
 -- an act is of this participant, and asks for this number
-abbrev pub asks_by : ActValue → GuidPrefix → ℕ → Bool
-asks_by act prefix n = is_prefix act.source prefix && (said act.body).lacked n
+abbrev pub asks_by : values.ActValue → GuidPrefix → ℕ → Bool
+asks_by act prefix n = speech.is_prefix act.source prefix && (said.said act.body).lacked n
 
 -- it asks for a number that its source was sent and has not acknowledged
-abbrev pub opens : BTreeMap Sending Place → BTreeMap GuidPrefix ℕ → ActValue → GuidPrefix → ℕ → Bool
+abbrev pub opens : BTreeMap Sending Place → BTreeMap GuidPrefix ℕ → values.ActValue → GuidPrefix → ℕ → Bool
 opens sent bases act prefix n = not (nat_lt n (base_kept bases prefix)) && (asks_by act prefix n && is_some (first_kept sent prefix n))
 
 -- the base of one participant becomes at least this
 abbrev pub keeps_base : BTreeMap GuidPrefix ℕ → BTreeMap GuidPrefix ℕ → GuidPrefix → ℕ → Type 0
 keeps_base old new source base =
-    (prefix : GuidPrefix) (n : ℕ) → nat_lt n (base_kept new prefix) ≡ (nat_lt n (base_kept old prefix) || (is_prefix source prefix && nat_lt n base))
+    (prefix : GuidPrefix) (n : ℕ) → nat_lt n (base_kept new prefix) ≡ (nat_lt n (base_kept old prefix) || (speech.is_prefix source prefix && nat_lt n base))
 
 -- of one participant this place is kept where a condition holds and none was kept
 abbrev pub keeps_first : BTreeMap GuidPrefix Place → BTreeMap GuidPrefix Place → GuidPrefix → Bool → Place → Type 0
 keeps_first old new source holds place =
-    (prefix : GuidPrefix) → get prefix_cmp new prefix ≡ option_or (get prefix_cmp old prefix) (if is_prefix source prefix && holds then Some place else None)
+    (prefix : GuidPrefix) → get bulletins.prefix_cmp new prefix ≡ option_or (get bulletins.prefix_cmp old prefix) (if speech.is_prefix source prefix && holds then Some place else None)
 
 -- what an act asks for and acknowledges is kept
-pub record AnswerIsKept (old new : Spread) (placed : PlacedAct) : Type 0 where
+pub record AnswerIsKept (old new : Spread) (placed : places.PlacedAct) : Type 0 where
   pub sent : new.sent ≡ old.sent
-  pub bases : keeps_base old.bases new.bases placed.act.source (base_in placed.act.body)
-  pub firsts : keeps_first old.firsts new.firsts placed.act.source (nat_lt 1 (base_in placed.act.body)) placed.place
-  pub askers : (prefix : GuidPrefix) → contains prefix_cmp old.askers prefix ≡ true → contains prefix_cmp new.askers prefix ≡ true
-  pub asker : (prefix : GuidPrefix) (n : ℕ) → asks_by placed.act prefix n ≡ true → contains prefix_cmp new.askers prefix ≡ true
+  pub bases : keeps_base old.bases new.bases placed.act.source (learning.base_in placed.act.body)
+  pub firsts : keeps_first old.firsts new.firsts placed.act.source (nat_lt 1 (learning.base_in placed.act.body)) placed.place
+  pub askers : (prefix : GuidPrefix) → contains bulletins.prefix_cmp old.askers prefix ≡ true → contains bulletins.prefix_cmp new.askers prefix ≡ true
+  pub asker : (prefix : GuidPrefix) (n : ℕ) → asks_by placed.act prefix n ≡ true → contains bulletins.prefix_cmp new.askers prefix ≡ true
   pub again : (prefix : GuidPrefix) (n : ℕ) → again_kept new.again prefix n
       ≡ if opens old.sent new.bases placed.act prefix n then Some None else again_kept old.again prefix n
 
@@ -107,35 +107,35 @@ pub record HearingIsKept (old new : Spread) (hearing : Hearing) : Type 0 where
 -- ---- what is kept of all acts
 
 -- where a participant learned of a number is where it was sent it first; it is not otherwise that it asked for it since, before it acknowledged it
-pub record LearnedFirst (inquiry : Inquiry) (acts : List PlacedAct) : Type 0 where
-  pub place : learned inquiry acts ≡ place_of (hears inquiry) acts
-  pub again : list_any (claims inquiry) acts ≡ false → heard_again inquiry acts ≡ place_of (hears inquiry) acts
+pub record LearnedFirst (inquiry : learning.Inquiry) (acts : List places.PlacedAct) : Type 0 where
+  pub place : learning.learned inquiry acts ≡ places.place_of (learning.hears inquiry) acts
+  pub again : list_any (learning.claims inquiry) acts ≡ false → learning.heard_again inquiry acts ≡ places.place_of (learning.hears inquiry) acts
 
 -- a participant was sent a number and asked for it, and this is where it is sent it again
-pub record HeardAgain (inquiry : Inquiry) (acts : List PlacedAct) (again : Option Place) : Type 0 where
-  pub place : again ≡ heard_again inquiry acts
-  pub heard : is_some (place_of (hears inquiry) acts) ≡ true
+pub record HeardAgain (inquiry : learning.Inquiry) (acts : List places.PlacedAct) (again : Option Place) : Type 0 where
+  pub place : again ≡ learning.heard_again inquiry acts
+  pub heard : is_some (places.place_of (learning.hears inquiry) acts) ≡ true
 
 -- what is kept of acts tells of this writer what they do
-pub record IsSpreadOf (writer : Guid) (acts : List PlacedAct) (spread : Spread) : Type 0 where
-  pub sent : (prefix : GuidPrefix) (n : ℕ) → first_kept spread.sent prefix n ≡ place_of (hears (inquiry_of writer prefix n)) acts
+pub record IsSpreadOf (writer : Guid) (acts : List places.PlacedAct) (spread : Spread) : Type 0 where
+  pub sent : (prefix : GuidPrefix) (n : ℕ) → first_kept spread.sent prefix n ≡ places.place_of (learning.hears (inquiry_of writer prefix n)) acts
   pub again : (prefix : GuidPrefix) (n : ℕ) → MatchOption (again_kept spread.again prefix n) (LearnedFirst (inquiry_of writer prefix n) acts)
       (HeardAgain (inquiry_of writer prefix n) acts)
-  pub askers : (prefix : GuidPrefix) (n : ℕ) → is_some (again_kept spread.again prefix n) ≡ true → contains prefix_cmp spread.askers prefix ≡ true
-  pub bases : (prefix : GuidPrefix) (n : ℕ) → nat_lt n (base_kept spread.bases prefix) ≡ list_any (claims (inquiry_of writer prefix n)) acts
-  pub firsts : (prefix : GuidPrefix) → get prefix_cmp spread.firsts prefix ≡ place_of (claims (inquiry_of writer prefix 1)) acts
+  pub askers : (prefix : GuidPrefix) (n : ℕ) → is_some (again_kept spread.again prefix n) ≡ true → contains bulletins.prefix_cmp spread.askers prefix ≡ true
+  pub bases : (prefix : GuidPrefix) (n : ℕ) → nat_lt n (base_kept spread.bases prefix) ≡ list_any (learning.claims (inquiry_of writer prefix n)) acts
+  pub firsts : (prefix : GuidPrefix) → get bulletins.prefix_cmp spread.firsts prefix ≡ places.place_of (learning.claims (inquiry_of writer prefix 1)) acts
 
 -- two lists of acts tell the same of a number and a participant: where it hears the number first, where it acknowledges it first, and where it
 -- hears it again
-pub record TellsTheSame (inquiry : Inquiry) (one other : List PlacedAct) : Type 0 where
-  pub first : place_of (hears inquiry) one ≡ place_of (hears inquiry) other
-  pub claimed : place_of (claims inquiry) one ≡ place_of (claims inquiry) other
-  pub again : heard_again inquiry one ≡ heard_again inquiry other
+pub record TellsTheSame (inquiry : learning.Inquiry) (one other : List places.PlacedAct) : Type 0 where
+  pub first : places.place_of (learning.hears inquiry) one ≡ places.place_of (learning.hears inquiry) other
+  pub claimed : places.place_of (learning.claims inquiry) one ≡ places.place_of (learning.claims inquiry) other
+  pub again : learning.heard_again inquiry one ≡ learning.heard_again inquiry other
 
 -- these acts tell nothing of this writer
-abbrev pub IsQuietIn : Guid → List PlacedAct → Type 0
+abbrev pub IsQuietIn : Guid → List places.PlacedAct → Type 0
 IsQuietIn writer acts = (prefix : GuidPrefix) (n : ℕ) → TellsTheSame (inquiry_of writer prefix n) [] acts
 
 -- so it is of each writer
-abbrev pub AreSpreadsOf : List PlacedAct → BTreeMap Guid Spread → Type 0
-AreSpreadsOf acts spreads = (writer : Guid) → MatchOption (get guid_cmp spreads writer) (IsQuietIn writer acts) (IsSpreadOf writer acts)
+abbrev pub AreSpreadsOf : List places.PlacedAct → BTreeMap Guid Spread → Type 0
+AreSpreadsOf acts spreads = (writer : Guid) → MatchOption (get guid_order.guid_cmp spreads writer) (IsQuietIn writer acts) (IsSpreadOf writer acts)

@@ -6,14 +6,13 @@ use Rattle.std.specs.Option.{option_map, option_or}
 use Rattle.rtps_ids.specs.declared.identity.EntityId.{EntityId}
 use Rattle.rtps_ids.specs.declared.identity.Guid.{Guid}
 use Rattle.rtps_ids.specs.declared.identity.GuidPrefix.{GuidPrefix}
-use Rattle.rtps_wire.specs.Values.{DataValue}
-use Rattle.rtps_receiver.specs.Said.{natural}
-use Rattle.rtps_receiver.specs.Speech.{is_entity, is_for, is_for_all, is_prefix, origin_of}
-use Rattle.rtps_receiver.specs.Values.{ActBodyValue, ActValue}
-use Rattle.rtps_receiver.specs.Values.ActBodyValue.{Data, Heartbeat, AckNack, Gap, DataFrag, NackFrag}
-use Rattle.rtps_discovery.specs.Endpoint.{EndpointValue}
-use Rattle.rtps_discovery.specs.Leaving.{inline_value, is_ending}
-use Rattle.rtps_discovery.specs.Notice.{announcement_of, endpoint_in}
+use Rattle.rtps_wire.specs.Values as wire_values
+use Rattle.rtps_receiver.specs.Said as said
+use Rattle.rtps_receiver.specs.Speech as speech
+use Rattle.rtps_receiver.specs.Values as receiver_values
+use Rattle.rtps_discovery.specs.Endpoint as endpoint
+use Rattle.rtps_discovery.specs.Leaving as leaving
+use Rattle.rtps_discovery.specs.Notice as notice
 use Rattle.rtps_known.specs.declared.layout.entity.TheConstants as entity
 use Rattle.rtps_known.specs.declared.layout.status.TheConstants as status
 use Rattle.rtps_known.specs.declared.telling.Acknowledgement.{Acknowledgement}
@@ -21,23 +20,23 @@ use Rattle.rtps_known.specs.declared.telling.Announcement.{Announcement}
 
 -- an act, and when its datagram came, if that is known
 pub record TimedAct : Type 0 where
-  pub act : ActValue
+  pub act : receiver_values.ActValue
   pub time : Option ℕ
 
 -- ---- what it says of numbers
 
 -- an act tells of a number: it sends it, or some of it, or says that the writer has it
-abbrev pub tells : ActBodyValue → ℕ → Bool
-tells (Data value) n = value.number == n
-tells (DataFrag value) n = value.number == n
-tells (Heartbeat value) n = nat_le value.first n && nat_le n (natural value.last)
-tells (AckNack value) n = false
-tells (Gap value) n = false
-tells (NackFrag value) n = false
+abbrev pub tells : receiver_values.ActBodyValue → ℕ → Bool
+tells (receiver_values.ActBodyValue.Data value) n = value.number == n
+tells (receiver_values.ActBodyValue.DataFrag value) n = value.number == n
+tells (receiver_values.ActBodyValue.Heartbeat value) n = nat_le value.first n && nat_le n (said.natural value.last)
+tells (receiver_values.ActBodyValue.AckNack value) n = false
+tells (receiver_values.ActBodyValue.Gap value) n = false
+tells (receiver_values.ActBodyValue.NackFrag value) n = false
 
 -- for everyone, or for this participant
 abbrev pub is_to : Option GuidPrefix → GuidPrefix → Bool
-is_to dest prefix = is_for_all dest || is_for dest prefix
+is_to dest prefix = speech.is_for_all dest || speech.is_for dest prefix
 
 -- a time is known, and not later than this one
 abbrev pub is_until : ℕ → Option ℕ → Bool
@@ -49,27 +48,27 @@ abbrev pub tells_until : GuidPrefix → ℕ → ℕ → TimedAct → Bool
 tells_until prefix end n timed = is_to timed.act.dest prefix && (tells timed.act.body n && is_until end timed.time)
 
 -- a DATA says that what it is of is disposed or unregistered
-abbrev pub says_ended : DataValue → Bool
-says_ended value = is_ending (inline_value status.PID value.qos)
+abbrev pub says_ended : wire_values.DataValue → Bool
+says_ended value = leaving.is_ending (leaving.inline_value status.PID value.qos)
 
 -- the number of a DATA that says so
-abbrev pub number_ended : ActBodyValue → Option ℕ
-number_ended (Data value) = if says_ended value then Some value.number else None
+abbrev pub number_ended : receiver_values.ActBodyValue → Option ℕ
+number_ended (receiver_values.ActBodyValue.Data value) = if says_ended value then Some value.number else None
 number_ended _ = None
 
 -- the number of a DATA
-abbrev pub number_sent : ActBodyValue → Option ℕ
-number_sent (Data value) = Some value.number
+abbrev pub number_sent : receiver_values.ActBodyValue → Option ℕ
+number_sent (receiver_values.ActBodyValue.Data value) = Some value.number
 number_sent _ = None
 
 -- the endpoint that a number announces
-abbrev pub announcement_by : Option ℕ → Option EndpointValue → Option Announcement
+abbrev pub announcement_by : Option ℕ → Option endpoint.EndpointValue → Option Announcement
 announcement_by (Some number) (Some endpoint) = Some (record { number = number; endpoint = endpoint.guid })
 announcement_by _ _ = None
 
 -- the endpoint that an act announces, with its number
-abbrev pub announcement_in : ActValue → Option Announcement
-announcement_in act = announcement_by (number_sent act.body) (endpoint_in (announcement_of act))
+abbrev pub announcement_in : receiver_values.ActValue → Option Announcement
+announcement_in act = announcement_by (number_sent act.body) (notice.endpoint_in (notice.announcement_of act))
 
 -- a value is there, and passes a test
 abbrev pub holds : {X : Type 0} → (X → Bool) → Option X → Bool
@@ -81,35 +80,35 @@ holds test None = false
 -- these are a built-in writer of endpoints and its reader
 abbrev pub are_built_in : EntityId → EntityId → Bool
 are_built_in writer reader =
-    (is_entity writer entity.PUBLICATIONS && is_entity reader entity.PUBLICATIONS_READER)
-    || (is_entity writer entity.SUBSCRIPTIONS && is_entity reader entity.SUBSCRIPTIONS_READER)
+    (speech.is_entity writer entity.PUBLICATIONS && speech.is_entity reader entity.PUBLICATIONS_READER)
+    || (speech.is_entity writer entity.SUBSCRIPTIONS && speech.is_entity reader entity.SUBSCRIPTIONS_READER)
 
 -- a built-in writer of endpoints
 abbrev pub is_built_in : EntityId → Bool
-is_built_in writer = is_entity writer entity.PUBLICATIONS || is_entity writer entity.SUBSCRIPTIONS
+is_built_in writer = speech.is_entity writer entity.PUBLICATIONS || speech.is_entity writer entity.SUBSCRIPTIONS
 
 -- what an ACKNACK with this destination acknowledges to a built-in writer of endpoints
-abbrev pub acknowledged_to : Option GuidPrefix → ActBodyValue → Option Acknowledgement
-acknowledged_to (Some dest) (AckNack value) =
+abbrev pub acknowledged_to : Option GuidPrefix → receiver_values.ActBodyValue → Option Acknowledgement
+acknowledged_to (Some dest) (receiver_values.ActBodyValue.AckNack value) =
     if are_built_in value.writer value.reader then Some (record { writer = record { prefix = dest; entity = value.writer }; base = value.set.base }) else None
 acknowledged_to _ _ = None
 
 -- what an act acknowledges
-abbrev pub acknowledgement_in : ActValue → Option Acknowledgement
+abbrev pub acknowledgement_in : receiver_values.ActValue → Option Acknowledgement
 acknowledgement_in act = acknowledged_to act.dest act.body
 
 -- the built-in writer of endpoints that an act is from
-abbrev pub teller_of : ActValue → Option Guid
-teller_of act = if is_built_in (origin_of act).entity then Some (origin_of act) else None
+abbrev pub teller_of : receiver_values.ActValue → Option Guid
+teller_of act = if is_built_in (speech.origin_of act).entity then Some (speech.origin_of act) else None
 
 -- the built-in writer of endpoints that an act is about: the one that it acknowledges something to, or else the one that it is from
-abbrev pub subject_of : ActValue → Option Guid
+abbrev pub subject_of : receiver_values.ActValue → Option Guid
 subject_of act = option_or (option_map (λ one. one.writer) (acknowledgement_in act)) (teller_of act)
 
 -- two GUIDs are the same
 abbrev pub is_guid : Guid → Guid → Bool
-is_guid one other = is_prefix one.prefix other.prefix && is_entity one.entity other.entity
+is_guid one other = speech.is_prefix one.prefix other.prefix && speech.is_entity one.entity other.entity
 
 -- a participant acknowledges a number: the base is above it
 abbrev pub acknowledges : GuidPrefix → ℕ → TimedAct → Bool
-acknowledges prefix n timed = is_prefix timed.act.source prefix && holds (λ one. nat_lt n one.base) (acknowledgement_in timed.act)
+acknowledges prefix n timed = speech.is_prefix timed.act.source prefix && holds (λ one. nat_lt n one.base) (acknowledgement_in timed.act)

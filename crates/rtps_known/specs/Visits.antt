@@ -1,19 +1,19 @@
 -- Up to when it counts that one participant tells another. own: who is told just before somebody is gone has no time to acknowledge it; of healthy
 -- systems a second leaves out all of that.
 use Rattle.std.specs.Prelude.{ℕ, ◌≡◌, ◌+◌, ◌≤◌, ◌↔◌, Option, Some, None, min}
-use Rattle.rtps_known.specs.declared.layout.TheConstants.{GRACE}
+use Rattle.rtps_known.specs.declared.layout.TheConstants as layout
 use Rattle.rtps_known.specs.declared.visit.Visit.{Visit}
 
 -- a time lies a second before another one, where there is that
 abbrev pub IsBefore : ℕ → Option ℕ → Type 0
-IsBefore time (Some other) = time + GRACE ≤ other
+IsBefore time (Some other) = time + layout.GRACE ≤ other
 IsBefore time None = Unit {0}
 
 -- a time lies a second before either leaves, and before the last datagram of the other, which is known
 pub record IsInTime (one other : Visit) (time : ℕ) : Type 0 where
   pub last : ℕ
   pub is_last : other.last ≡ Some last
-  pub before_last : time + GRACE ≤ last
+  pub before_last : time + layout.GRACE ≤ last
   pub before_one : IsBefore time one.left
   pub before_other : IsBefore time other.left
 

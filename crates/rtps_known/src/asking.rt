@@ -4,11 +4,9 @@ ghost use Rattle.std.specs.Prelude.{ℕ, ◌≡◌, ◌≤◌, ◌<◌, ◌&&◌
 ghost use Rattle.std.specs.BTreeMap.{get, is_at};
 ghost use Rattle.rtps_ids.specs.declared.identity.GuidPrefix.{GuidPrefix as GuidPrefixValue};
 ghost use Rattle.rtps_receiver.specs.Said as said;
-ghost use Rattle.rtps_receiver.specs.Speech.{is_prefix};
-ghost use Rattle.rtps_receiver.specs.Values.{spoken_value};
-ghost use Rattle.rtps_known.specs.Learning.{base_in, subject_in, writer_for};
+ghost use Rattle.rtps_receiver.specs.Values as values;
+ghost use Rattle.rtps_known.specs.Learning as learning;
 ghost use Rattle.rtps_known.specs.declared.sending.Sending.{Sending as SendingValue};
-ghost use Rattle.rtps_known.specs.Spreads.{again_kept, base_kept, first_kept, opens};
 ghost use Rattle.rtps_known.specs.Spreads as spreads;
 
 use crate::layout::entity;
@@ -21,7 +19,7 @@ use std::collections::BTreeMap;
 
 /// The built-in writer of endpoints of a participant, where these are its entity and that of its reader.
 fn writer_asked(dest: Option<GuidPrefix>, writer: EntityId, reader: EntityId) -> Option<Guid>
-    ensures { result ≡ writer_for dest writer reader }
+    ensures { result ≡ learning.writer_for dest writer reader }
 {
     let prefix = dest?;
     let publications = writer == entity::PUBLICATIONS && reader == entity::PUBLICATIONS_READER;
@@ -38,7 +36,7 @@ fn writer_asked(dest: Option<GuidPrefix>, writer: EntityId, reader: EntityId) ->
 
 /// The built-in writer of endpoints that an act sends a number of, or that it asks.
 pub(crate) fn subject(act: &Spoken<'_>) -> Option<Guid>
-    ensures { result ≡ subject_in (spoken_value act.now) }
+    ensures { result ≡ learning.subject_in (values.spoken_value act.now) }
 {
     match &act.body {
         SpokenBody::Act(ActBody::Data(data)) => {
@@ -63,7 +61,7 @@ pub(crate) fn subject(act: &Spoken<'_>) -> Option<Guid>
 
 /// The base of an ACKNACK; 0 of any other act.
 pub(crate) fn base(act: &Spoken<'_>) -> u64
-    ensures { result ≡ base_in (spoken_value act.now).body }
+    ensures { result ≡ learning.base_in (values.spoken_value act.now).body }
 {
     match &act.body {
         SpokenBody::Act(ActBody::AckNack(ack_nack)) => ack_nack.set.base().cast_unsigned(),
@@ -73,7 +71,7 @@ pub(crate) fn base(act: &Spoken<'_>) -> u64
 
 /// Whether an act asks for a number.
 fn lacks(act: &Spoken<'_>, number: u64) -> bool
-    ensures { result ≡ (said.said (spoken_value act.now).body).lacked number }
+    ensures { result ≡ (said.said (values.spoken_value act.now).body).lacked number }
 {
     match act.said().lacked.range_from(number) {
         Some(range) => range.start == number,
@@ -83,7 +81,7 @@ fn lacks(act: &Spoken<'_>, number: u64) -> bool
 
 /// Numbers among which are all that an act asks for.
 pub(crate) fn window(act: &Spoken<'_>) -> Stretch
-    ensures among { (n : ℕ) → (said.said (spoken_value act.now).body).lacked n ≡ true → (result.lo ≤ n) × (n < result.hi) }
+    ensures among { (n : ℕ) → (said.said (values.spoken_value act.now).body).lacked n ≡ true → (result.lo ≤ n) × (n < result.hi) }
     ensures ordered { result.lo ≤ result.hi }
 {
     match &act.body {
@@ -122,8 +120,8 @@ fn may_open(
     act: &Spoken<'_>,
     number: u64,
 ) -> bool
-    ensures { result ≡ ((said.said (spoken_value act.now).body).lacked number
-        && (not (nat_lt number (base_kept bases.now act.now.source)) && is_some (first_kept sent.now act.now.source number))) }
+    ensures { result ≡ ((said.said (values.spoken_value act.now).body).lacked number
+        && (not (nat_lt number (spreads.base_kept bases.now act.now.source)) && is_some (spreads.first_kept sent.now act.now.source number))) }
 {
     lacks(act, number)
         && !is_acknowledged(bases, act.source, number)
@@ -137,8 +135,8 @@ pub(crate) fn note_asked(
     bases: &BTreeMap<GuidPrefix, u64>,
     act: &Spoken<'_>,
 ) -> Result<(), Memory>
-    ensures { OnOk result ((prefix : GuidPrefixValue) (n : ℕ) → again_kept again.new prefix n
-        ≡ cond (opens sent.now bases.now (spoken_value act.now) prefix n) (Some None) (again_kept again.old prefix n)) }
+    ensures { OnOk result ((prefix : GuidPrefixValue) (n : ℕ) → spreads.again_kept again.new prefix n
+        ≡ cond (spreads.opens sent.now bases.now (values.spoken_value act.now) prefix n) (Some None) (spreads.again_kept again.old prefix n)) }
 {
     let source = act.source;
     let asked = window(act);

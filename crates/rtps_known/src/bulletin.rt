@@ -2,10 +2,9 @@ ghost use Rattle.std.specs.Prelude.{ℕ, ◌≡◌, ◌++◌, ◌∷◌, ◌&&�
 ghost use Rattle.std.specs.BTreeMap.{get};
 ghost use Rattle.std.specs.List.{list_any};
 ghost use Rattle.rtps_ids.specs.declared.identity.GuidPrefix.{GuidPrefix as GuidPrefixValue};
-ghost use Rattle.rtps_receiver.specs.Speech.{is_prefix};
-ghost use Rattle.rtps_receiver.specs.Values.{spoken_value};
-ghost use Rattle.rtps_known.specs.Bulletins.{AreToldBy, IsBulletinOf, base_by, prefix_cmp, reaches};
-ghost use Rattle.rtps_known.specs.Tellings.{TimedAct, acknowledgement_in, announcement_in, holds};
+ghost use Rattle.rtps_receiver.specs.Speech as speech;
+ghost use Rattle.rtps_receiver.specs.Values as values;
+ghost use Rattle.rtps_known.specs.Bulletins as bulletins;
 ghost use Rattle.rtps_known.specs.Tellings as tellings;
 ghost use Rattle.rtps_known.specs.declared.telling.Announcement.{Announcement as AnnouncementValue};
 
@@ -33,7 +32,7 @@ pub(crate) struct Bulletin {
 impl Bulletin {
     /// That of no acts. It takes no memory.
     pub(crate) fn new(alloc: Global) -> Bulletin
-        ensures { IsBulletinOf [] result }
+        ensures { bulletins.IsBulletinOf [] result }
     {
         Bulletin {
             told: BTreeMap::new(alloc),
@@ -45,8 +44,8 @@ impl Bulletin {
 
     /// Keeps what an act about the writer says, and when its datagram came. After `Memory` it is of no use.
     pub(crate) fn note(&mut self, act: &Spoken<'_>, time: Option<u64>) -> Result<(), Memory>
-        ensures { OnOk result ((acts : List TimedAct) → IsBulletinOf acts self.old
-            → IsBulletinOf (acts ++ (record { act = spoken_value act.now; time = time }) ∷ []) self.new) }
+        ensures { OnOk result ((acts : List tellings.TimedAct) → bulletins.IsBulletinOf acts self.old
+            → bulletins.IsBulletinOf (acts ++ (record { act = values.spoken_value act.now; time = time }) ∷ []) self.new) }
     {
         note_told(&mut self.told, act, time)?;
         note_ended(&mut self.ended, act)?;
@@ -57,7 +56,7 @@ impl Bulletin {
 
     /// The greatest base of a participant; 0 where it acknowledges nothing.
     pub(crate) fn base(&self, prefix: GuidPrefix) -> u64
-        ensures { result ≡ base_by self.now prefix }
+        ensures { result ≡ bulletins.base_by self.now prefix }
     {
         match self.bases.get(&prefix) {
             Some(base) => *base,
@@ -72,8 +71,8 @@ fn note_told(
     act: &Spoken<'_>,
     time: Option<u64>,
 ) -> Result<(), Memory>
-    ensures { OnOk result ((acts : List TimedAct) → AreToldBy acts told.old.entries
-        → AreToldBy (acts ++ (record { act = spoken_value act.now; time = time }) ∷ []) told.new.entries) }
+    ensures { OnOk result ((acts : List tellings.TimedAct) → bulletins.AreToldBy acts told.old.entries
+        → bulletins.AreToldBy (acts ++ (record { act = values.spoken_value act.now; time = time }) ∷ []) told.new.entries) }
 {
     let Some(time) = time else {
         return Ok(());
@@ -90,8 +89,8 @@ fn note_told(
 
 /// Keeps a time of a telling, unless there is an earlier one. After `Memory` it is of no use.
 fn keep_least(told: &mut BTreeMap<Telling, u64>, telling: Telling, time: u64) -> Result<(), Memory>
-    ensures { OnOk result ((prefix : GuidPrefixValue) (end n : ℕ) → list_any (reaches prefix end n) told.new.entries
-        ≡ (list_any (reaches prefix end n) told.old.entries || reaches prefix end n (telling, time))) }
+    ensures { OnOk result ((prefix : GuidPrefixValue) (end n : ℕ) → list_any (bulletins.reaches prefix end n) told.new.entries
+        ≡ (list_any (bulletins.reaches prefix end n) told.old.entries || bulletins.reaches prefix end n (telling, time))) }
 {
     if let Some(kept) = told.get_mut(&telling) {
         *kept = (*kept).min(time);
@@ -104,7 +103,7 @@ fn keep_least(told: &mut BTreeMap<Telling, u64>, telling: Telling, time: u64) ->
 /// Keeps the number that says that an endpoint ends. After `Memory` it is of no use.
 fn note_ended(ended: &mut BTreeSet<u64>, act: &Spoken<'_>) -> Result<(), Memory>
     ensures { OnOk result ((test : ℕ → Bool) → list_any test ended.new.keys
-        ≡ (list_any test ended.old.keys || holds test (tellings.number_ended (spoken_value act.now).body))) }
+        ≡ (list_any test ended.old.keys || tellings.holds test (tellings.number_ended (values.spoken_value act.now).body))) }
 {
     let Some(number) = number_ended(act) else {
         return Ok(());
@@ -116,7 +115,7 @@ fn note_ended(ended: &mut BTreeSet<u64>, act: &Spoken<'_>) -> Result<(), Memory>
 /// Keeps the endpoint that an act announces. After `Memory` it is of no use.
 fn note_announced(announced: &mut BTreeSet<Announcement>, act: &Spoken<'_>) -> Result<(), Memory>
     ensures { OnOk result ((test : AnnouncementValue → Bool) → list_any test announced.new.keys
-        ≡ (list_any test announced.old.keys || holds test (announcement_in (spoken_value act.now)))) }
+        ≡ (list_any test announced.old.keys || tellings.holds test (tellings.announcement_in (values.spoken_value act.now)))) }
 {
     let Some(one) = number_announced(act) else {
         return Ok(());
@@ -127,9 +126,9 @@ fn note_announced(announced: &mut BTreeSet<Announcement>, act: &Spoken<'_>) -> R
 
 /// Keeps the base that an act acknowledges, unless a greater one is kept. After `Memory` it is of no use.
 fn note_base(bases: &mut BTreeMap<GuidPrefix, u64>, act: &Spoken<'_>) -> Result<(), Memory>
-    ensures { OnOk result ((prefix : GuidPrefixValue) (n : ℕ) → nat_lt n (unwrap_or (get prefix_cmp bases.new prefix) 0)
-        ≡ (nat_lt n (unwrap_or (get prefix_cmp bases.old prefix) 0)
-        || (is_prefix act.now.source prefix && holds (λ one. nat_lt n one.base) (acknowledgement_in (spoken_value act.now))))) }
+    ensures { OnOk result ((prefix : GuidPrefixValue) (n : ℕ) → nat_lt n (unwrap_or (get bulletins.prefix_cmp bases.new prefix) 0)
+        ≡ (nat_lt n (unwrap_or (get bulletins.prefix_cmp bases.old prefix) 0)
+        || (speech.is_prefix act.now.source prefix && tellings.holds (λ one. nat_lt n one.base) (tellings.acknowledgement_in (values.spoken_value act.now))))) }
 {
     let Some(told) = acknowledged(act) else {
         return Ok(());

@@ -1,10 +1,9 @@
 //! How endpoints are announced, and when what a participant sends came.
 
 ghost use Rattle.std.specs.Prelude.{◌≡◌};
-ghost use Rattle.rtps_receiver.specs.Values.{spoken_value};
-ghost use Rattle.rtps_known.specs.Matched.{came_ahead, came_near};
+ghost use Rattle.rtps_receiver.specs.Values as values;
 ghost use Rattle.rtps_known.specs.Matched as matched;
-ghost use Rattle.rtps_known.specs.Tellings.{holds};
+ghost use Rattle.rtps_known.specs.Tellings as tellings;
 
 use crate::layout::NEAR;
 use crate::place::Place;
@@ -24,7 +23,7 @@ pub(crate) struct Issue {
 
 /// The endpoint of its source that an act announces, and how.
 pub(crate) fn issue_told(act: &Spoken<'_>, place: Place) -> Option<(Guid, Issue)>
-    ensures { result ≡ matched.issue_told (record { act = spoken_value act.now; place = place }) }
+    ensures { result ≡ matched.issue_told (record { act = values.spoken_value act.now; place = place }) }
 {
     let SpokenBody::Act(ActBody::Data(data)) = &act.body else {
         return None;
@@ -57,7 +56,7 @@ pub(crate) struct Times {
 
 /// Those of an act that is a DATA, where both are known.
 pub(crate) fn times_told(act: &Spoken<'_>, place: Place) -> Option<Times>
-    ensures { result ≡ matched.times_told (record { act = spoken_value act.now; place = place }) }
+    ensures { result ≡ matched.times_told (record { act = values.spoken_value act.now; place = place }) }
 {
     let SpokenBody::Act(ActBody::Data(_)) = &act.body else {
         return None;
@@ -69,7 +68,7 @@ pub(crate) fn times_told(act: &Spoken<'_>, place: Place) -> Option<Times>
 
 /// Whether a DATA came at most 0.1 s behind its source time, if both are known.
 pub(crate) fn is_near(times: Option<Times>) -> bool
-    ensures { result ≡ holds came_near times }
+    ensures { result ≡ tellings.holds matched.came_near times }
 {
     match times {
         Some(times) => times.came <= times.sent.saturating_add(NEAR),
@@ -79,7 +78,7 @@ pub(crate) fn is_near(times: Option<Times>) -> bool
 
 /// Whether it came more than 0.1 s before it.
 pub(crate) fn is_ahead(times: Option<Times>) -> bool
-    ensures { result ≡ holds came_ahead times }
+    ensures { result ≡ tellings.holds matched.came_ahead times }
 {
     match times {
         Some(times) => times.came < times.sent.saturating_sub(NEAR),

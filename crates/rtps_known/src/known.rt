@@ -1,10 +1,10 @@
 ghost use Rattle.std.specs.Prelude.{◌<◌, ◌++◌, ◌∷◌, [], IfOk, List, OnOk};
-ghost use Rattle.rtps_receiver.specs.Values.{spoken_value};
-ghost use Rattle.rtps_known.specs.Lacking.{IsLackingOf};
-ghost use Rattle.rtps_known.specs.Lives.{AreLivesOf};
-ghost use Rattle.rtps_known.specs.Meetings.{AreMetBy};
-ghost use Rattle.rtps_known.specs.Recorded.{AreBulletinsOf, IsKnownOf, about, acts_of};
-ghost use Rattle.rtps_known.specs.Tellings.{TimedAct};
+ghost use Rattle.rtps_receiver.specs.Values as values;
+ghost use Rattle.rtps_known.specs.Lacking as lacking_spec;
+ghost use Rattle.rtps_known.specs.Lives as lives_spec;
+ghost use Rattle.rtps_known.specs.Meetings as meetings;
+ghost use Rattle.rtps_known.specs.Recorded as recorded;
+ghost use Rattle.rtps_known.specs.Tellings as tellings;
 
 use crate::bulletin::Bulletin;
 use crate::lacking::Lacking;
@@ -31,7 +31,7 @@ pub struct Known {
 impl Known {
     /// That of no acts. It takes no memory.
     pub fn new(alloc: Global) -> Known
-        ensures { IsKnownOf [] result }
+        ensures { recorded.IsKnownOf [] result }
     {
         Known {
             bulletins: BTreeMap::new(alloc),
@@ -44,8 +44,8 @@ impl Known {
     /// Keeps what an act says, the next one of the recording, and when its datagram came, in nanoseconds, if that is known. After `Memory` it
     /// is of no use.
     pub fn note(&mut self, act: &Spoken<'_>, time: Option<u64>) -> Result<(), Memory>
-        ensures { OnOk result ((acts : List TimedAct) → IsKnownOf acts self.old
-            → IsKnownOf (acts ++ (record { act = spoken_value act.now; time = time }) ∷ []) self.new) }
+        ensures { OnOk result ((acts : List tellings.TimedAct) → recorded.IsKnownOf acts self.old
+            → recorded.IsKnownOf (acts ++ (record { act = values.spoken_value act.now; time = time }) ∷ []) self.new) }
     {
         note_meeting(&mut self.met, act, time)?;
         note_bulletin(&mut self.bulletins, self.alloc, act, time)?;
@@ -56,7 +56,7 @@ impl Known {
     /// The numbers of the writer that announces a participant that have two source times, by participant and then by number. Such a participant
     /// has two lives under one GUID.
     pub fn lives(&self) -> Result<Vec<Life>, Memory>
-        ensures { IfOk result (λ lives. (acts : List TimedAct) → IsKnownOf acts self.now → AreLivesOf (acts_of acts) lives.items) }
+        ensures { IfOk result (λ lives. (acts : List tellings.TimedAct) → recorded.IsKnownOf acts self.now → lives_spec.AreLivesOf (recorded.acts_of acts) lives.items) }
     {
         let lives = lives_among(self.alloc, &self.births)?;
         Ok(lives)
@@ -69,7 +69,7 @@ impl Known {
         prefix: GuidPrefix,
         end: u64,
     ) -> Result<Lacking, Memory>
-        ensures lacking { IfOk result (λ lacking. (acts : List TimedAct) → IsKnownOf acts self.now → IsLackingOf (about writer acts) prefix end lacking) }
+        ensures lacking { IfOk result (λ lacking. (acts : List tellings.TimedAct) → recorded.IsKnownOf acts self.now → lacking_spec.IsLackingOf (recorded.about writer acts) prefix end lacking) }
         ensures bounded { IfOk result (λ lacking. lacking.unnamed < END) }
     {
         let Some(bulletin) = self.bulletins.get(&writer) else {
@@ -89,8 +89,8 @@ fn note_meeting(
     act: &Spoken<'_>,
     time: Option<u64>,
 ) -> Result<(), Memory>
-    ensures { OnOk result ((acts : List TimedAct) → AreMetBy acts met.old
-        → AreMetBy (acts ++ (record { act = spoken_value act.now; time = time }) ∷ []) met.new) }
+    ensures { OnOk result ((acts : List tellings.TimedAct) → meetings.AreMetBy acts met.old
+        → meetings.AreMetBy (acts ++ (record { act = values.spoken_value act.now; time = time }) ∷ []) met.new) }
 {
     let Some(dest) = act.dest else {
         return Ok(());
@@ -113,8 +113,8 @@ fn note_bulletin(
     act: &Spoken<'_>,
     time: Option<u64>,
 ) -> Result<(), Memory>
-    ensures { OnOk result ((acts : List TimedAct) → AreBulletinsOf acts bulletins.old
-        → AreBulletinsOf (acts ++ (record { act = spoken_value act.now; time = time }) ∷ []) bulletins.new) }
+    ensures { OnOk result ((acts : List tellings.TimedAct) → recorded.AreBulletinsOf acts bulletins.old
+        → recorded.AreBulletinsOf (acts ++ (record { act = values.spoken_value act.now; time = time }) ∷ []) bulletins.new) }
 {
     let Some(writer) = subject(act) else {
         return Ok(());

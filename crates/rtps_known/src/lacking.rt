@@ -4,14 +4,13 @@ ghost use Rattle.std.specs.Prelude.{ℕ, ◌≡◌, ◌-◌, ◌≤◌, ◌<◌,
 ghost use Rattle.std.specs.BTreeSet.{contains};
 ghost use Rattle.std.specs.List.{list_any};
 ghost use Rattle.std.specs.List.Sorted.{IsStrictlySortedBy};
-ghost use Rattle.rtps_coverage.specs.Counts.{count_in};
-ghost use Rattle.rtps_coverage.specs.Stretches.{stretch_has, stretches_have};
+ghost use Rattle.rtps_coverage.specs.Counts as counts;
+ghost use Rattle.rtps_coverage.specs.Stretches as stretches_spec;
 ghost use Rattle.rtps_ids.specs.declared.identity.Guid.{Guid as GuidValue};
-ghost use Rattle.rtps_discovery.specs.GuidOrder.{guid_cmp};
-ghost use Rattle.rtps_known.specs.Bulletins.{IsBulletinOf, reaches};
-ghost use Rattle.rtps_known.specs.Lacking.{IsLackingOf, is_listed, is_marked};
+ghost use Rattle.rtps_discovery.specs.GuidOrder as guid_order;
+ghost use Rattle.rtps_known.specs.Bulletins as bulletins;
 ghost use Rattle.rtps_known.specs.Lacking as lacking_spec;
-ghost use Rattle.rtps_known.specs.Tellings.{TimedAct, holds, is_guid, is_to};
+ghost use Rattle.rtps_known.specs.Tellings as tellings;
 
 use crate::bulletin::Bulletin;
 use crate::layout::END;
@@ -33,7 +32,7 @@ pub(crate) struct Lacking {
 
 /// Whether a telling is for a participant.
 fn is_for(telling: &Telling, prefix: GuidPrefix) -> bool
-    ensures { result ≡ is_to telling.now.dest prefix }
+    ensures { result ≡ tellings.is_to telling.now.dest prefix }
 {
     match telling.dest {
         Some(dest) => dest == prefix,
@@ -43,7 +42,7 @@ fn is_for(telling: &Telling, prefix: GuidPrefix) -> bool
 
 /// Whether one of these stretches has a number.
 fn have(stretches: &[Stretch], number: u64) -> bool
-    ensures { result ≡ stretches_have stretches.now number }
+    ensures { result ≡ stretches_spec.stretches_have stretches.now number }
 {
     stretches
         .iter()
@@ -52,7 +51,7 @@ fn have(stretches: &[Stretch], number: u64) -> bool
 
 /// A number as a stretch.
 fn of_one(number: u64) -> Stretch
-    ensures { (n : ℕ) → n < END → stretch_has n result ≡ nat_eq n number }
+    ensures { (n : ℕ) → n < END → stretches_spec.stretch_has n result ≡ nat_eq n number }
 {
     Stretch {
         lo: number,
@@ -62,7 +61,7 @@ fn of_one(number: u64) -> Stretch
 
 /// Inserts an endpoint where a condition holds. After `Memory` the endpoints are of no use.
 fn insert_if(endpoints: &mut BTreeSet<Guid>, endpoint: Guid, holds: bool) -> Result<(), Memory>
-    ensures { OnOk result ((guid : GuidValue) → contains guid_cmp endpoints.new guid ≡ (contains guid_cmp endpoints.old guid || (is_guid guid endpoint && holds))) }
+    ensures { OnOk result ((guid : GuidValue) → contains guid_order.guid_cmp endpoints.new guid ≡ (contains guid_order.guid_cmp endpoints.old guid || (tellings.is_guid guid endpoint && holds))) }
 {
     if holds {
         endpoints.insert(endpoint)?;
@@ -73,7 +72,7 @@ fn insert_if(endpoints: &mut BTreeSet<Guid>, endpoint: Guid, holds: bool) -> Res
 /// These endpoints, in order.
 fn listed(alloc: Global, endpoints: &BTreeSet<Guid>) -> Result<Vec<Guid>, Memory>
     ensures items { IfOk result (λ listed. listed.items ≡ endpoints.now.keys) }
-    ensures ordered { IfOk result (λ listed. IsStrictlySortedBy guid_cmp listed.items) }
+    ensures ordered { IfOk result (λ listed. IsStrictlySortedBy guid_order.guid_cmp listed.items) }
 {
     let mut listed = Vec::new(alloc);
     for endpoint in endpoints.iter() {
@@ -84,7 +83,7 @@ fn listed(alloc: Global, endpoints: &BTreeSet<Guid>) -> Result<Vec<Guid>, Memory
 
 /// Appends stretches. After `Memory` they are of no use.
 fn append(stretches: &mut Vec<Stretch>, more: &[Stretch]) -> Result<(), Memory>
-    ensures { OnOk result ((n : ℕ) → stretches_have stretches.new.items n ≡ (stretches_have stretches.old.items n || stretches_have more.now n)) }
+    ensures { OnOk result ((n : ℕ) → stretches_spec.stretches_have stretches.new.items n ≡ (stretches_spec.stretches_have stretches.old.items n || stretches_spec.stretches_have more.now n)) }
 {
     for stretch in more {
         stretches.push(*stretch)?;
@@ -94,7 +93,7 @@ fn append(stretches: &mut Vec<Stretch>, more: &[Stretch]) -> Result<(), Memory>
 
 /// Appends a stretch, if there is one. After `Memory` the stretches are of no use.
 fn push_some(stretches: &mut Vec<Stretch>, stretch: Option<Stretch>) -> Result<(), Memory>
-    ensures { OnOk result ((n : ℕ) → stretches_have stretches.new.items n ≡ (stretches_have stretches.old.items n || holds (stretch_has n) stretch)) }
+    ensures { OnOk result ((n : ℕ) → stretches_spec.stretches_have stretches.new.items n ≡ (stretches_spec.stretches_have stretches.old.items n || tellings.holds (stretches_spec.stretch_has n) stretch)) }
 {
     if let Some(stretch) = stretch {
         stretches.push(stretch)?;
@@ -104,7 +103,7 @@ fn push_some(stretches: &mut Vec<Stretch>, stretch: Option<Stretch>) -> Result<(
 
 /// The numbers of a telling that is for a participant, and not later than a time.
 fn told_until(telling: &Telling, time: u64, prefix: GuidPrefix, end: u64) -> Option<Stretch>
-    ensures { (n : ℕ) → holds (stretch_has n) result ≡ reaches prefix end n (telling.now, time) }
+    ensures { (n : ℕ) → tellings.holds (stretches_spec.stretch_has n) result ≡ bulletins.reaches prefix end n (telling.now, time) }
 {
     if time > end || !is_for(telling, prefix) {
         return None;
@@ -118,7 +117,7 @@ fn told_until(telling: &Telling, time: u64, prefix: GuidPrefix, end: u64) -> Opt
 impl Bulletin {
     /// The numbers that are told to a participant up to a time, in order.
     fn told_to(&self, alloc: Global, prefix: GuidPrefix, end: u64) -> Result<Vec<Stretch>, Memory>
-        ensures { IfOk result (λ told. (n : ℕ) → stretches_have told.items n ≡ list_any (reaches prefix end n) self.now.told.entries) }
+        ensures { IfOk result (λ told. (n : ℕ) → stretches_spec.stretches_have told.items n ≡ list_any (bulletins.reaches prefix end n) self.now.told.entries) }
     {
         let mut told = Vec::new(alloc);
         for (telling, time) in self.told.iter() {
@@ -143,7 +142,7 @@ impl Bulletin {
         told: &[Stretch],
         base: u64,
     ) -> Result<BTreeSet<Guid>, Memory>
-        ensures { IfOk result (λ endpoints. (guid : GuidValue) → contains guid_cmp endpoints guid ≡ list_any (is_listed told.now self.now base guid) self.now.announced.keys) }
+        ensures { IfOk result (λ endpoints. (guid : GuidValue) → contains guid_order.guid_cmp endpoints guid ≡ list_any (lacking_spec.is_listed told.now self.now base guid) self.now.announced.keys) }
     {
         let mut endpoints = BTreeSet::new(alloc);
         for announcement in self.announced.iter() {
@@ -155,7 +154,7 @@ impl Bulletin {
 
     /// The numbers that announce an endpoint, or say that one ends.
     fn numbers_marked(&self, alloc: Global) -> Result<Vec<Stretch>, Memory>
-        ensures { IfOk result (λ marked. (n : ℕ) → n < END → stretches_have marked.items n ≡ is_marked self.now n) }
+        ensures { IfOk result (λ marked. (n : ℕ) → n < END → stretches_spec.stretches_have marked.items n ≡ lacking_spec.is_marked self.now n) }
     {
         let mut marked = Vec::new(alloc);
         mark_announced(&mut marked, &self.announced)?;
@@ -170,7 +169,7 @@ impl Bulletin {
         prefix: GuidPrefix,
         end: u64,
     ) -> Result<Lacking, Memory>
-        ensures lacking { IfOk result (λ lacking. (acts : List TimedAct) → IsBulletinOf acts self.now → IsLackingOf acts prefix end lacking) }
+        ensures lacking { IfOk result (λ lacking. (acts : List tellings.TimedAct) → bulletins.IsBulletinOf acts self.now → lacking_spec.IsLackingOf acts prefix end lacking) }
         ensures bounded { IfOk result (λ lacking. lacking.unnamed < END) }
     {
         let base = self.base(prefix);
@@ -189,8 +188,8 @@ fn mark_announced(
     marked: &mut Vec<Stretch>,
     announced: &BTreeSet<Announcement>,
 ) -> Result<(), Memory>
-    ensures { OnOk result ((n : ℕ) → n < END → stretches_have marked.new.items n
-        ≡ (stretches_have marked.old.items n || list_any (λ announcement. nat_eq n announcement.number) announced.now.keys)) }
+    ensures { OnOk result ((n : ℕ) → n < END → stretches_spec.stretches_have marked.new.items n
+        ≡ (stretches_spec.stretches_have marked.old.items n || list_any (λ announcement. nat_eq n announcement.number) announced.now.keys)) }
 {
     for announcement in announced.iter() {
         marked.push(of_one(announcement.number))?;
@@ -200,7 +199,7 @@ fn mark_announced(
 
 /// Appends the numbers that say that an endpoint ends. After `Memory` the stretches are of no use.
 fn mark_ended(marked: &mut Vec<Stretch>, ended: &BTreeSet<u64>) -> Result<(), Memory>
-    ensures { OnOk result ((n : ℕ) → n < END → stretches_have marked.new.items n ≡ (stretches_have marked.old.items n || list_any (nat_eq n) ended.now.keys)) }
+    ensures { OnOk result ((n : ℕ) → n < END → stretches_spec.stretches_have marked.new.items n ≡ (stretches_spec.stretches_have marked.old.items n || list_any (nat_eq n) ended.now.keys)) }
 {
     for number in ended.iter() {
         marked.push(of_one(*number))?;
@@ -211,7 +210,7 @@ fn mark_ended(marked: &mut Vec<Stretch>, ended: &BTreeSet<u64>) -> Result<(), Me
 /// How many numbers from `from` on stretches have that others do not have. The others are of no use behind it.
 fn count_others(others: &mut Vec<Stretch>, stretches: &[Stretch], from: u64) -> Result<u64, Memory>
     requires { from ≤ END }
-    ensures count { IfOk result (λ count. count ≡ count_in (λ n. stretches_have stretches.now n && not (stretches_have others.old.items n)) from END) }
+    ensures count { IfOk result (λ count. count ≡ counts.count_in (λ n. stretches_spec.stretches_have stretches.now n && not (stretches_spec.stretches_have others.old.items n)) from END) }
     ensures bounded { IfOk result (λ count. count ≤ END - from) }
 {
     let before = count_of(others, from, END)?;

@@ -1,6 +1,5 @@
 ghost use Rattle.std.specs.Prelude.{◌≡◌, ◌++◌, ◌∷◌, [], IfOk, List, OnOk};
-ghost use Rattle.rtps_receiver.specs.Values.{ActValue, spoken_value};
-ghost use Rattle.rtps_known.specs.Lives.{AreBirthsOf, AreLivesOf, birth_in, life_by, sent_with};
+ghost use Rattle.rtps_receiver.specs.Values as values;
 ghost use Rattle.rtps_known.specs.Lives as lives_spec;
 
 use crate::layout::{entity, vendor};
@@ -41,7 +40,7 @@ fn is_tried(one: Vendor) -> bool
 
 /// The number of the writer that announces participants that an act sends, and its source time.
 fn birth_told(act: &Spoken<'_>) -> Option<(Birth, Stamp)>
-    ensures { result ≡ birth_in (spoken_value act.now) }
+    ensures { result ≡ lives_spec.birth_in (values.spoken_value act.now) }
 {
     let SpokenBody::Act(ActBody::Data(data)) = &act.body else {
         return None;
@@ -58,7 +57,7 @@ fn birth_told(act: &Spoken<'_>) -> Option<(Birth, Stamp)>
 
 /// The source times of a number with one more.
 fn with_stamp(sent: Option<Sent>, stamp: Stamp) -> Sent
-    ensures { result ≡ sent_with sent stamp }
+    ensures { result ≡ lives_spec.sent_with sent stamp }
 {
     let Some(sent) = sent else {
         return Sent {
@@ -77,8 +76,8 @@ fn with_stamp(sent: Option<Sent>, stamp: Stamp) -> Sent
 
 /// Keeps the source time of an act that announces a participant. After `Memory` it is of no use.
 pub(crate) fn note_birth(births: &mut BTreeMap<Birth, Sent>, act: &Spoken<'_>) -> Result<(), Memory>
-    ensures { OnOk result ((acts : List ActValue) → AreBirthsOf acts births.old.entries
-        → AreBirthsOf (acts ++ spoken_value act.now ∷ []) births.new.entries) }
+    ensures { OnOk result ((acts : List values.ActValue) → lives_spec.AreBirthsOf acts births.old.entries
+        → lives_spec.AreBirthsOf (acts ++ values.spoken_value act.now ∷ []) births.new.entries) }
 {
     let Some((birth, stamp)) = birth_told(act) else {
         return Ok(());
@@ -91,7 +90,7 @@ pub(crate) fn note_birth(births: &mut BTreeMap<Birth, Sent>, act: &Spoken<'_>) -
 
 /// The life that a number with two source times shows.
 fn life_of(birth: Birth, sent: Sent) -> Option<Life>
-    ensures { result ≡ life_by (birth, sent) }
+    ensures { result ≡ lives_spec.life_by (birth, sent) }
 {
     let sent = (sent.first, sent.other?);
     Some(Life {
@@ -106,7 +105,7 @@ pub(crate) fn lives_among(
     alloc: Global,
     births: &BTreeMap<Birth, Sent>,
 ) -> Result<Vec<Life>, Memory>
-    ensures { IfOk result (λ lives. (acts : List ActValue) → AreBirthsOf acts births.now.entries → AreLivesOf acts lives.items) }
+    ensures { IfOk result (λ lives. (acts : List values.ActValue) → lives_spec.AreBirthsOf acts births.now.entries → lives_spec.AreLivesOf acts lives.items) }
 {
     let mut lives = Vec::new(alloc);
     for (birth, sent) in births.iter() {

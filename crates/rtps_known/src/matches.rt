@@ -1,16 +1,13 @@
 ghost use Rattle.std.specs.Prelude.{◌≡◌, ◌++◌, ◌∷◌, ◌||◌, [], List, OnOk};
 ghost use Rattle.std.specs.BTreeSet.{contains};
 ghost use Rattle.rtps_ids.specs.declared.identity.GuidPrefix.{GuidPrefix as GuidPrefixValue};
-ghost use Rattle.rtps_receiver.specs.Speech.{is_prefix};
-ghost use Rattle.rtps_receiver.specs.Values.{spoken_value};
-ghost use Rattle.rtps_known.specs.Bulletins.{prefix_cmp};
-ghost use Rattle.rtps_known.specs.Matched.{AreIssuesOf, AreJoinedIn, AreMatchesOf, both_joined, learned_of};
+ghost use Rattle.rtps_receiver.specs.Values as values;
+ghost use Rattle.rtps_known.specs.Bulletins as bulletins;
 ghost use Rattle.rtps_known.specs.Matched as matched_spec;
-ghost use Rattle.rtps_known.specs.Places.{PlacedAct};
 ghost use Rattle.rtps_known.specs.Places as places_spec;
 ghost use Rattle.rtps_known.specs.declared.layout.entity.TheConstants.{PUBLICATIONS, SUBSCRIPTIONS};
-ghost use Rattle.rtps_known.specs.Spreads.{AreSpreadsOf};
-ghost use Rattle.rtps_known.specs.Tellings.{holds};
+ghost use Rattle.rtps_known.specs.Spreads as spreads_spec;
+ghost use Rattle.rtps_known.specs.Tellings as tellings;
 
 use crate::asking::subject;
 use crate::issue::{Issue, delay_by, is_ahead, is_near, issue_told, times_told};
@@ -49,7 +46,7 @@ pub struct Matches {
 impl Matches {
     /// That of no acts. It takes no memory.
     pub fn new(alloc: Global) -> Matches
-        ensures { AreMatchesOf [] result }
+        ensures { matched_spec.AreMatchesOf [] result }
     {
         Matches {
             spreads: BTreeMap::new(alloc),
@@ -64,8 +61,8 @@ impl Matches {
     /// Keeps what an act says, the next one of the recording, and where it stands. A sample that was put together stands as a DATA in the place
     /// where it became whole. After `Memory` it is of no use.
     pub fn note(&mut self, act: &Spoken<'_>, place: Place) -> Result<(), Memory>
-        ensures { OnOk result ((acts : List PlacedAct) → AreMatchesOf acts self.old
-            → AreMatchesOf (acts ++ (record { act = spoken_value act.now; place = place }) ∷ []) self.new) }
+        ensures { OnOk result ((acts : List places_spec.PlacedAct) → matched_spec.AreMatchesOf acts self.old
+            → matched_spec.AreMatchesOf (acts ++ (record { act = values.spoken_value act.now; place = place }) ∷ []) self.new) }
     {
         note_spread(&mut self.spreads, self.alloc, act, place)?;
         note_issue(&mut self.issues, act, place)?;
@@ -77,7 +74,7 @@ impl Matches {
     /// Where a writer and a reader of two participants matched, and how late. None where the recording does not tell. Of a participant with two
     /// lives under one GUID it says nothing that is of use.
     pub fn matched(&self, writer: Guid, reader: Guid) -> Option<Matched>
-        ensures { (acts : List PlacedAct) → AreMatchesOf acts self.now → result ≡ matched_spec.matched acts writer reader }
+        ensures { (acts : List places_spec.PlacedAct) → matched_spec.AreMatchesOf acts self.now → result ≡ matched_spec.matched acts writer reader }
     {
         let place = self.place_matched(writer, reader)?;
         let delay = self.delay_of(writer, reader, place);
@@ -85,7 +82,7 @@ impl Matches {
     }
 
     fn place_matched(&self, writer: Guid, reader: Guid) -> Option<Place>
-        ensures { (acts : List PlacedAct) → AreMatchesOf acts self.now → result ≡ matched_spec.place_matched acts writer reader }
+        ensures { (acts : List places_spec.PlacedAct) → matched_spec.AreMatchesOf acts self.now → result ≡ matched_spec.place_matched acts writer reader }
     {
         if writer.prefix == reader.prefix
             || self.began_in_the_middle(writer.prefix, reader.prefix)
@@ -100,20 +97,20 @@ impl Matches {
 
     /// The later of the places where two participants are announced first.
     fn both_joined(&self, one: GuidPrefix, other: GuidPrefix) -> Option<Place>
-        ensures { (acts : List PlacedAct) → AreMatchesOf acts self.now → result ≡ both_joined acts one other }
+        ensures { (acts : List places_spec.PlacedAct) → matched_spec.AreMatchesOf acts self.now → result ≡ matched_spec.both_joined acts one other }
     {
         later_known(self.joined_at(one), self.joined_at(other))
     }
 
     fn joined_at(&self, prefix: GuidPrefix) -> Option<Place>
-        ensures { (acts : List PlacedAct) → AreMatchesOf acts self.now → result ≡ matched_spec.joined acts prefix }
+        ensures { (acts : List places_spec.PlacedAct) → matched_spec.AreMatchesOf acts self.now → result ≡ matched_spec.joined acts prefix }
     {
         self.joined.get(&participant_of(prefix)).copied()
     }
 
     /// Where a participant learned of an endpoint.
     fn learned_of(&self, prefix: GuidPrefix, endpoint: Guid) -> Option<Place>
-        ensures { (acts : List PlacedAct) → AreMatchesOf acts self.now → result ≡ learned_of acts prefix endpoint }
+        ensures { (acts : List places_spec.PlacedAct) → matched_spec.AreMatchesOf acts self.now → result ≡ matched_spec.learned_of acts prefix endpoint }
     {
         let issue = self.issues.get(&endpoint).copied()?;
         let writer = Guid {
@@ -128,7 +125,7 @@ impl Matches {
 
     /// Whether the recording began when two participants knew each other.
     fn began_in_the_middle(&self, one: GuidPrefix, other: GuidPrefix) -> bool
-        ensures { (acts : List PlacedAct) → AreMatchesOf acts self.now → result ≡ matched_spec.began_in_the_middle acts one other }
+        ensures { (acts : List places_spec.PlacedAct) → matched_spec.AreMatchesOf acts self.now → result ≡ matched_spec.began_in_the_middle acts one other }
     {
         match self.both_joined(one, other) {
             Some(place) => self.met_before(one, other, place),
@@ -137,14 +134,14 @@ impl Matches {
     }
 
     fn met_before(&self, one: GuidPrefix, other: GuidPrefix, place: Place) -> bool
-        ensures { (acts : List PlacedAct) → AreMatchesOf acts self.now → result ≡ matched_spec.met_before acts one other place }
+        ensures { (acts : List places_spec.PlacedAct) → matched_spec.AreMatchesOf acts self.now → result ≡ matched_spec.met_before acts one other place }
     {
         self.has_met(one, other, place) || self.has_met(other, one, place)
     }
 
     /// Whether the second participant acknowledges, before a place, what the first one tells of its endpoints.
     fn has_met(&self, one: GuidPrefix, other: GuidPrefix, place: Place) -> bool
-        ensures { (acts : List PlacedAct) → AreMatchesOf acts self.now → result
+        ensures { (acts : List places_spec.PlacedAct) → matched_spec.AreMatchesOf acts self.now → result
             ≡ (matched_spec.claims_before acts place one other PUBLICATIONS || matched_spec.claims_before acts place one other SUBSCRIPTIONS) }
     {
         self.claims_before(one, other, entity::PUBLICATIONS, place)
@@ -159,7 +156,7 @@ impl Matches {
         entity: EntityId,
         place: Place,
     ) -> bool
-        ensures { (acts : List PlacedAct) → AreMatchesOf acts self.now → result ≡ matched_spec.claims_before acts place one other entity }
+        ensures { (acts : List places_spec.PlacedAct) → matched_spec.AreMatchesOf acts self.now → result ≡ matched_spec.claims_before acts place one other entity }
     {
         let writer = Guid {
             prefix: one,
@@ -172,7 +169,7 @@ impl Matches {
     }
 
     fn delay_of(&self, writer: Guid, reader: Guid, place: Place) -> Option<u64>
-        ensures { (acts : List PlacedAct) → AreMatchesOf acts self.now → result ≡ matched_spec.delay_of acts writer reader place }
+        ensures { (acts : List places_spec.PlacedAct) → matched_spec.AreMatchesOf acts self.now → result ≡ matched_spec.delay_of acts writer reader place }
     {
         if !self.fits(writer.prefix) || !self.fits(reader.prefix) {
             return None;
@@ -184,7 +181,7 @@ impl Matches {
 
     /// Whether the clock of a participant fits that of the recording.
     fn fits(&self, prefix: GuidPrefix) -> bool
-        ensures { (acts : List PlacedAct) → AreMatchesOf acts self.now → result ≡ matched_spec.fits acts prefix }
+        ensures { (acts : List places_spec.PlacedAct) → matched_spec.AreMatchesOf acts self.now → result ≡ matched_spec.fits acts prefix }
     {
         self.near.contains(&prefix) && !self.ahead.contains(&prefix)
     }
@@ -192,7 +189,7 @@ impl Matches {
 
 /// Whether there is a place, and it stands before this one.
 fn is_before(claimed: Option<Place>, place: Place) -> bool
-    ensures { result ≡ holds (λ one. places_spec.precedes one place) claimed }
+    ensures { result ≡ tellings.holds (λ one. places_spec.precedes one place) claimed }
 {
     match claimed {
         Some(claimed) => precedes(claimed, place),
@@ -207,8 +204,8 @@ fn note_spread(
     act: &Spoken<'_>,
     place: Place,
 ) -> Result<(), Memory>
-    ensures { OnOk result ((acts : List PlacedAct) → AreSpreadsOf acts spreads.old
-        → AreSpreadsOf (acts ++ (record { act = spoken_value act.now; place = place }) ∷ []) spreads.new) }
+    ensures { OnOk result ((acts : List places_spec.PlacedAct) → spreads_spec.AreSpreadsOf acts spreads.old
+        → spreads_spec.AreSpreadsOf (acts ++ (record { act = values.spoken_value act.now; place = place }) ∷ []) spreads.new) }
 {
     let Some(writer) = subject(act) else {
         return Ok(());
@@ -229,8 +226,8 @@ fn note_issue(
     act: &Spoken<'_>,
     place: Place,
 ) -> Result<(), Memory>
-    ensures { OnOk result ((acts : List PlacedAct) → AreIssuesOf acts issues.old.entries
-        → AreIssuesOf (acts ++ (record { act = spoken_value act.now; place = place }) ∷ []) issues.new.entries) }
+    ensures { OnOk result ((acts : List places_spec.PlacedAct) → matched_spec.AreIssuesOf acts issues.old.entries
+        → matched_spec.AreIssuesOf (acts ++ (record { act = values.spoken_value act.now; place = place }) ∷ []) issues.new.entries) }
 {
     let Some((guid, issue)) = issue_told(act, place) else {
         return Ok(());
@@ -245,8 +242,8 @@ fn note_joined(
     act: &Spoken<'_>,
     place: Place,
 ) -> Result<(), Memory>
-    ensures { OnOk result ((acts : List PlacedAct) → AreJoinedIn acts joined.old.entries
-        → AreJoinedIn (acts ++ (record { act = spoken_value act.now; place = place }) ∷ []) joined.new.entries) }
+    ensures { OnOk result ((acts : List places_spec.PlacedAct) → matched_spec.AreJoinedIn acts joined.old.entries
+        → matched_spec.AreJoinedIn (acts ++ (record { act = values.spoken_value act.now; place = place }) ∷ []) joined.new.entries) }
 {
     let Some(guid) = announced_participant(act) else {
         return Ok(());
@@ -262,10 +259,10 @@ fn note_clock(
     act: &Spoken<'_>,
     place: Place,
 ) -> Result<(), Memory>
-    ensures near { OnOk result ((prefix : GuidPrefixValue) → contains prefix_cmp near.new prefix
-        ≡ (contains prefix_cmp near.old prefix || matched_spec.is_near prefix (record { act = spoken_value act.now; place = place }))) }
-    ensures ahead { OnOk result ((prefix : GuidPrefixValue) → contains prefix_cmp ahead.new prefix
-        ≡ (contains prefix_cmp ahead.old prefix || matched_spec.is_ahead prefix (record { act = spoken_value act.now; place = place }))) }
+    ensures near { OnOk result ((prefix : GuidPrefixValue) → contains bulletins.prefix_cmp near.new prefix
+        ≡ (contains bulletins.prefix_cmp near.old prefix || matched_spec.is_near prefix (record { act = values.spoken_value act.now; place = place }))) }
+    ensures ahead { OnOk result ((prefix : GuidPrefixValue) → contains bulletins.prefix_cmp ahead.new prefix
+        ≡ (contains bulletins.prefix_cmp ahead.old prefix || matched_spec.is_ahead prefix (record { act = values.spoken_value act.now; place = place }))) }
 {
     let times = times_told(act, place);
     insert_if(near, act.source, is_near(times))?;

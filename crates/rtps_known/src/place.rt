@@ -1,7 +1,6 @@
 //! Where acts stand in a recording.
 
 ghost use Rattle.std.specs.Prelude.{◌≡◌};
-ghost use Rattle.rtps_known.specs.Places.{later_of};
 ghost use Rattle.rtps_known.specs.Places as places_spec;
 
 /// The place of an act in a recording, and when its datagram came.
@@ -31,7 +30,7 @@ fn later(one: Place, other: Place) -> Place
 
 /// The later of two places, where there are both.
 pub(crate) fn later_known(one: Option<Place>, other: Option<Place>) -> Option<Place>
-    ensures { result ≡ later_of one other }
+    ensures { result ≡ places_spec.later_of one other }
 {
     Some(later(one?, other?))
 }

@@ -1,17 +1,12 @@
 //! The numbers of a built-in writer of endpoints that are sent, where, and to whom.
 
-ghost use Rattle.std.specs.Prelude.{ℕ, ◌≡◌, ◌==◌, ◌&&◌, ◌||◌, Bool, IsSome, OnOk, Some, None, cond, is_some, nat_lt, not, unwrap_or};
+ghost use Rattle.std.specs.Prelude.{ℕ, ◌≡◌, ◌&&◌, ◌||◌, OnOk, Some, None, cond, is_some, nat_lt, not, unwrap_or};
 ghost use Rattle.std.specs.BTreeMap.{get, is_at};
-ghost use Rattle.std.specs.BTreeSet.{contains};
-ghost use Rattle.std.specs.Option.{option_map, option_or};
+ghost use Rattle.std.specs.Option.{option_or};
 ghost use Rattle.rtps_ids.specs.declared.identity.GuidPrefix.{GuidPrefix as GuidPrefixValue};
-ghost use Rattle.rtps_receiver.specs.Speech.{is_prefix};
-ghost use Rattle.rtps_receiver.specs.Values.{spoken_value};
-ghost use Rattle.rtps_known.specs.Bulletins.{prefix_cmp};
+ghost use Rattle.rtps_receiver.specs.Values as values;
 ghost use Rattle.rtps_known.specs.declared.sending.Sending.{Sending as SendingValue};
-ghost use Rattle.rtps_known.specs.Spreads.{again_kept, base_kept, filled, first_kept, hears_by};
 ghost use Rattle.rtps_known.specs.Spreads as spreads;
-ghost use Rattle.rtps_known.specs.Tellings.{is_to};
 ghost use Rattle.rtps_known.specs.Tellings as tellings;
 
 use crate::place::Place;
@@ -39,7 +34,7 @@ pub(crate) fn again_of(
     prefix: GuidPrefix,
     number: u64,
 ) -> Option<Place>
-    ensures { result ≡ unwrap_or (again_kept again.now prefix number) None }
+    ensures { result ≡ unwrap_or (spreads.again_kept again.now prefix number) None }
 {
     let request = Sending {
         number,
@@ -53,7 +48,7 @@ pub(crate) fn again_of(
 
 /// The number that an act sends.
 pub(crate) fn hearing_in(act: &Spoken<'_>, place: Place) -> Option<Hearing>
-    ensures { result ≡ spreads.hearing_in (spoken_value act.now) place }
+    ensures { result ≡ spreads.hearing_in (values.spoken_value act.now) place }
 {
     match &act.body {
         SpokenBody::Act(ActBody::Data(data)) => Some(Hearing {
@@ -69,7 +64,7 @@ pub(crate) fn hearing_in(act: &Spoken<'_>, place: Place) -> Option<Hearing>
 
 /// Whether a participant is sent what is sent so.
 fn is_sent_to(dest: Option<GuidPrefix>, prefix: GuidPrefix) -> bool
-    ensures { result ≡ is_to dest prefix }
+    ensures { result ≡ tellings.is_to dest prefix }
 {
     match dest {
         Some(dest) => dest == prefix,
@@ -83,7 +78,7 @@ pub(crate) fn first_sent(
     prefix: GuidPrefix,
     number: u64,
 ) -> Option<Place>
-    ensures { result ≡ first_kept sent.now prefix number }
+    ensures { result ≡ spreads.first_kept sent.now prefix number }
 {
     let own = Sending {
         number,
@@ -108,8 +103,8 @@ fn was_sent(sent: &BTreeMap<Sending, Place>, sending: Sending) -> bool
 
 /// Keeps where a number is sent, unless who is sent it was sent it before. After `Memory` nothing has changed.
 pub(crate) fn note_sent(sent: &mut BTreeMap<Sending, Place>, hearing: Hearing) -> Result<(), Memory>
-    ensures { OnOk result ((prefix : GuidPrefixValue) (n : ℕ) → first_kept sent.new prefix n
-        ≡ option_or (first_kept sent.old prefix n) (cond (hears_by hearing.sending prefix n) (Some hearing.place) None)) }
+    ensures { OnOk result ((prefix : GuidPrefixValue) (n : ℕ) → spreads.first_kept sent.new prefix n
+        ≡ option_or (spreads.first_kept sent.old prefix n) (cond (spreads.hears_by hearing.sending prefix n) (Some hearing.place) None)) }
 {
     if was_sent(sent, hearing.sending) {
         return Ok(());
@@ -124,7 +119,7 @@ pub(crate) fn is_acknowledged(
     prefix: GuidPrefix,
     number: u64,
 ) -> bool
-    ensures { result ≡ nat_lt number (base_kept bases.now prefix) }
+    ensures { result ≡ nat_lt number (spreads.base_kept bases.now prefix) }
 {
     match bases.get(&prefix) {
         Some(base) => number < *base,
@@ -135,7 +130,7 @@ pub(crate) fn is_acknowledged(
 /// Keeps where a participant is sent a number that it asks for, unless it was sent it since.
 fn fill(again: &mut BTreeMap<Sending, Option<Place>>, request: Sending, place: Place)
     ensures { (other : SendingValue) → get spreads.sending_cmp again.new other
-        ≡ filled (is_at (spreads.sending_cmp request) other) place (get spreads.sending_cmp again.old other) }
+        ≡ spreads.filled (is_at (spreads.sending_cmp request) other) place (get spreads.sending_cmp again.old other) }
 {
     if let Some(kept) = again.get_mut(&request) {
         *kept = Some((*kept).unwrap_or(place));
@@ -150,7 +145,7 @@ fn fill_if(
     holds: bool,
 )
     ensures { (other : SendingValue) → get spreads.sending_cmp again.new other
-        ≡ filled (holds && is_at (spreads.sending_cmp request) other) place (get spreads.sending_cmp again.old other) }
+        ≡ spreads.filled (holds && is_at (spreads.sending_cmp request) other) place (get spreads.sending_cmp again.old other) }
 {
     if holds {
         fill(again, request, place);
@@ -159,7 +154,7 @@ fn fill_if(
 
 /// Whether a participant is sent a number that it does not acknowledge.
 fn is_awaited(bases: &BTreeMap<GuidPrefix, u64>, sending: Sending, prefix: GuidPrefix) -> bool
-    ensures { result ≡ (is_to sending.dest prefix && not (nat_lt sending.number (base_kept bases.now prefix))) }
+    ensures { result ≡ (tellings.is_to sending.dest prefix && not (nat_lt sending.number (spreads.base_kept bases.now prefix))) }
 {
     is_sent_to(sending.dest, prefix) && !is_acknowledged(bases, prefix, sending.number)
 }
@@ -171,8 +166,8 @@ pub(crate) fn note_again(
     bases: &BTreeMap<GuidPrefix, u64>,
     hearing: Hearing,
 )
-    ensures { (prefix : GuidPrefixValue) (n : ℕ) → again_kept again.new prefix n
-        ≡ filled (spreads.refills askers.now bases.now hearing.sending prefix n) hearing.place (again_kept again.old prefix n) }
+    ensures { (prefix : GuidPrefixValue) (n : ℕ) → spreads.again_kept again.new prefix n
+        ≡ spreads.filled (spreads.refills askers.now bases.now hearing.sending prefix n) hearing.place (spreads.again_kept again.old prefix n) }
 {
     let number = hearing.sending.number;
     for prefix in askers.iter() {

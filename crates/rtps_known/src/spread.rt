@@ -1,17 +1,15 @@
 //! What a recording has of the numbers of one built-in writer of endpoints: where it sends them, and who asks for them and acknowledges them.
 
-ghost use Rattle.std.specs.Prelude.{◌≡◌, ◌++◌, ◌∷◌, ◌||◌, ◌&&◌, [], true, List, OnOk, nat_lt};
-ghost use Rattle.std.specs.BTreeMap.{get};
+ghost use Rattle.std.specs.Prelude.{◌≡◌, ◌++◌, ◌∷◌, ◌||◌, ◌&&◌, [], true, List, OnOk};
 ghost use Rattle.std.specs.BTreeSet.{contains};
 ghost use Rattle.rtps_ids.specs.declared.identity.Guid.{Guid as GuidValue};
 ghost use Rattle.rtps_ids.specs.declared.identity.GuidPrefix.{GuidPrefix as GuidPrefixValue};
-ghost use Rattle.rtps_receiver.specs.Speech.{is_prefix};
-ghost use Rattle.rtps_receiver.specs.Values.{spoken_value};
-ghost use Rattle.rtps_known.specs.Bulletins.{prefix_cmp};
-ghost use Rattle.rtps_known.specs.Learning.{is_about};
+ghost use Rattle.rtps_receiver.specs.Speech as speech;
+ghost use Rattle.rtps_receiver.specs.Values as values;
+ghost use Rattle.rtps_known.specs.Bulletins as bulletins;
 ghost use Rattle.rtps_known.specs.Learning as learning;
-ghost use Rattle.rtps_known.specs.Places.{PlacedAct};
-ghost use Rattle.rtps_known.specs.Spreads.{AnswerIsKept, HearingIsKept, IsSpreadOf, inquiry_of, keeps_base, keeps_first};
+ghost use Rattle.rtps_known.specs.Places as places;
+ghost use Rattle.rtps_known.specs.Spreads as spreads;
 
 use crate::asking::{base, note_asked, window};
 use crate::place::Place;
@@ -40,7 +38,7 @@ pub(crate) struct Spread {
 impl Spread {
     /// That of no acts. It takes no memory.
     pub(crate) fn new(alloc: Global) -> Spread
-        ensures { (writer : GuidValue) → IsSpreadOf writer [] result }
+        ensures { (writer : GuidValue) → spreads.IsSpreadOf writer [] result }
     {
         Spread {
             sent: BTreeMap::new(alloc),
@@ -53,8 +51,8 @@ impl Spread {
 
     /// Keeps an act about the writer, the next one, if it tells something new. After `Memory` it is of no use.
     pub(crate) fn note(&mut self, act: &Spoken<'_>, place: Place) -> Result<(), Memory>
-        ensures { OnOk result ((writer : GuidValue) (acts : List PlacedAct) → is_about writer (spoken_value act.now) ≡ true → IsSpreadOf writer acts self.old
-            → IsSpreadOf writer (acts ++ (record { act = spoken_value act.now; place = place }) ∷ []) self.new) }
+        ensures { OnOk result ((writer : GuidValue) (acts : List places.PlacedAct) → learning.is_about writer (values.spoken_value act.now) ≡ true → spreads.IsSpreadOf writer acts self.old
+            → spreads.IsSpreadOf writer (acts ++ (record { act = values.spoken_value act.now; place = place }) ∷ []) self.new) }
     {
         self.note_answer(act, place)?;
         let Some(hearing) = hearing_in(act, place) else {
@@ -66,7 +64,7 @@ impl Spread {
 
     /// Keeps what an act asks for and acknowledges. After `Memory` it is of no use.
     fn note_answer(&mut self, act: &Spoken<'_>, place: Place) -> Result<(), Memory>
-        ensures { OnOk result (AnswerIsKept self.old self.new (record { act = spoken_value act.now; place = place })) }
+        ensures { OnOk result (spreads.AnswerIsKept self.old self.new (record { act = values.spoken_value act.now; place = place })) }
     {
         let acknowledged = base(act);
         note_base(&mut self.bases, act.source, acknowledged)?;
@@ -79,7 +77,7 @@ impl Spread {
 
     /// Keeps that a number is sent. After `Memory` it is of no use.
     fn note_hearing(&mut self, hearing: Hearing) -> Result<(), Memory>
-        ensures { OnOk result (HearingIsKept self.old self.new hearing) }
+        ensures { OnOk result (spreads.HearingIsKept self.old self.new hearing) }
     {
         note_again(&mut self.again, &self.askers, &self.bases, hearing);
         note_sent(&mut self.sent, hearing)?;
@@ -88,7 +86,7 @@ impl Spread {
 
     /// Where a participant learned of a number.
     pub(crate) fn learned(&self, prefix: GuidPrefix, number: u64) -> Option<Place>
-        ensures { (writer : GuidValue) (acts : List PlacedAct) → IsSpreadOf writer acts self.now → result ≡ learning.learned (inquiry_of writer prefix number) acts }
+        ensures { (writer : GuidValue) (acts : List places.PlacedAct) → spreads.IsSpreadOf writer acts self.now → result ≡ learning.learned (spreads.inquiry_of writer prefix number) acts }
     {
         again_of(&self.again, prefix, number).or(first_sent(&self.sent, prefix, number))
     }
@@ -100,7 +98,7 @@ pub(crate) fn insert_if(
     prefix: GuidPrefix,
     holds: bool,
 ) -> Result<(), Memory>
-    ensures { OnOk result ((other : GuidPrefixValue) → contains prefix_cmp prefixes.new other ≡ (contains prefix_cmp prefixes.old other || (is_prefix other prefix && holds))) }
+    ensures { OnOk result ((other : GuidPrefixValue) → contains bulletins.prefix_cmp prefixes.new other ≡ (contains bulletins.prefix_cmp prefixes.old other || (speech.is_prefix other prefix && holds))) }
 {
     if holds {
         prefixes.insert(prefix)?;
@@ -114,7 +112,7 @@ fn note_base(
     source: GuidPrefix,
     base: u64,
 ) -> Result<(), Memory>
-    ensures { OnOk result (keeps_base bases.old bases.new source base) }
+    ensures { OnOk result (spreads.keeps_base bases.old bases.new source base) }
 {
     if let Some(kept) = bases.get_mut(&source) {
         *kept = (*kept).max(base);
@@ -131,7 +129,7 @@ fn note_first(
     holds: bool,
     place: Place,
 ) -> Result<(), Memory>
-    ensures { OnOk result (keeps_first firsts.old firsts.new source holds place) }
+    ensures { OnOk result (spreads.keeps_first firsts.old firsts.new source holds place) }
 {
     if !holds {
         return Ok(());

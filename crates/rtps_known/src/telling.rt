@@ -1,10 +1,9 @@
 //! What an act tells of the numbers of a built-in writer of endpoints.
 
 ghost use Rattle.std.specs.Prelude.{ℕ, ◌≡◌, ◌==◌};
-ghost use Rattle.rtps_coverage.specs.Stretches.{stretch_has};
-ghost use Rattle.rtps_receiver.specs.Values.{spoken_value};
-ghost use Rattle.rtps_wire.specs.Values.{data_value};
-ghost use Rattle.rtps_known.specs.Tellings.{acknowledgement_in, announcement_in, says_ended, teller_of, tells};
+ghost use Rattle.rtps_coverage.specs.Stretches as stretches;
+ghost use Rattle.rtps_receiver.specs.Values as receiver_values;
+ghost use Rattle.rtps_wire.specs.Values as wire_values;
 ghost use Rattle.rtps_known.specs.Tellings as tellings;
 
 use crate::layout::{entity, status};
@@ -31,7 +30,7 @@ pub(crate) struct Announcement {
 
 /// A number as a stretch.
 fn one(number: SeqNum) -> Stretch
-    ensures { (n : ℕ) → stretch_has n result ≡ (number == n) }
+    ensures { (n : ℕ) → stretches.stretch_has n result ≡ (number == n) }
 {
     let lo = number.get().cast_unsigned();
     Stretch { lo, hi: lo + 1 }
@@ -39,7 +38,7 @@ fn one(number: SeqNum) -> Stretch
 
 /// The numbers that an act tells.
 pub(crate) fn numbers_told(act: &Spoken<'_>) -> Stretch
-    ensures { (n : ℕ) → stretch_has n result ≡ tells (spoken_value act.now).body n }
+    ensures { (n : ℕ) → stretches.stretch_has n result ≡ tellings.tells (receiver_values.spoken_value act.now).body n }
 {
     match &act.body {
         SpokenBody::Act(ActBody::Data(data)) => one(data.number),
@@ -54,7 +53,7 @@ pub(crate) fn numbers_told(act: &Spoken<'_>) -> Stretch
 
 /// Whether a DATA says that what it is of is disposed or unregistered.
 fn is_ending(body: &DataBody<'_>) -> bool
-    ensures { result ≡ says_ended (data_value body.now) }
+    ensures { result ≡ tellings.says_ended (wire_values.data_value body.now) }
 {
     let Some(list) = &body.qos else {
         return false;
@@ -67,7 +66,7 @@ fn is_ending(body: &DataBody<'_>) -> bool
 
 /// The number of a DATA that says so.
 pub(crate) fn number_ended(act: &Spoken<'_>) -> Option<u64>
-    ensures { result ≡ tellings.number_ended (spoken_value act.now).body }
+    ensures { result ≡ tellings.number_ended (receiver_values.spoken_value act.now).body }
 {
     match &act.body {
         SpokenBody::Act(ActBody::Data(data)) if is_ending(data) => {
@@ -79,7 +78,7 @@ pub(crate) fn number_ended(act: &Spoken<'_>) -> Option<u64>
 
 /// The number of a DATA.
 fn number_sent(act: &Spoken<'_>) -> Option<u64>
-    ensures { result ≡ tellings.number_sent (spoken_value act.now).body }
+    ensures { result ≡ tellings.number_sent (receiver_values.spoken_value act.now).body }
 {
     match &act.body {
         SpokenBody::Act(ActBody::Data(data)) => Some(data.number.get().cast_unsigned()),
@@ -111,7 +110,7 @@ pub(crate) struct Acknowledgement {
 
 /// What an act acknowledges to a built-in writer of endpoints.
 pub(crate) fn acknowledged(act: &Spoken<'_>) -> Option<Acknowledgement>
-    ensures { result ≡ acknowledgement_in (spoken_value act.now) }
+    ensures { result ≡ tellings.acknowledgement_in (receiver_values.spoken_value act.now) }
 {
     let SpokenBody::Act(ActBody::AckNack(ack_nack)) = &act.body else {
         return None;
@@ -129,7 +128,7 @@ pub(crate) fn acknowledged(act: &Spoken<'_>) -> Option<Acknowledgement>
 
 /// The built-in writer of endpoints that an act is from.
 fn teller(act: &Spoken<'_>) -> Option<Guid>
-    ensures { result ≡ teller_of (spoken_value act.now) }
+    ensures { result ≡ tellings.teller_of (receiver_values.spoken_value act.now) }
 {
     let origin = act.origin();
     if is_built_in(origin.entity) {
@@ -141,7 +140,7 @@ fn teller(act: &Spoken<'_>) -> Option<Guid>
 
 /// The endpoint that an act announces, with its number.
 pub(crate) fn number_announced(act: &Spoken<'_>) -> Option<Announcement>
-    ensures { result ≡ announcement_in (spoken_value act.now) }
+    ensures { result ≡ tellings.announcement_in (receiver_values.spoken_value act.now) }
 {
     let number = number_sent(act)?;
     let endpoint = announced_endpoint(act)?.guid;
@@ -150,7 +149,7 @@ pub(crate) fn number_announced(act: &Spoken<'_>) -> Option<Announcement>
 
 /// The built-in writer of endpoints that an act is about: the one that it acknowledges something to, or else the one that it is from.
 pub(crate) fn subject(act: &Spoken<'_>) -> Option<Guid>
-    ensures { result ≡ tellings.subject_of (spoken_value act.now) }
+    ensures { result ≡ tellings.subject_of (receiver_values.spoken_value act.now) }
 {
     match acknowledged(act) {
         Some(told) => Some(told.writer),

@@ -3,14 +3,13 @@ ghost use Rattle.std.specs.BTreeSet.{contains};
 ghost use Rattle.std.specs.List.{list_any};
 ghost use Rattle.std.specs.Ordering.{is_eq};
 ghost use Rattle.rtps_ids.specs.declared.identity.GuidPrefix.{GuidPrefix as GuidPrefixValue};
-ghost use Rattle.rtps_receiver.specs.Speech.{is_prefix};
-ghost use Rattle.rtps_receiver.specs.Values.{ActValue};
-ghost use Rattle.rtps_policies.specs.Announcing.{IsAnnouncedBy, hosts_in};
+ghost use Rattle.rtps_receiver.specs.Speech as speech;
+ghost use Rattle.rtps_receiver.specs.Values as values;
+ghost use Rattle.rtps_policies.specs.Announcing as announcing_spec;
 ghost use Rattle.rtps_policies.specs.Silence as silence;
-ghost use Rattle.rtps_known.specs.Bulletins.{prefix_cmp};
-ghost use Rattle.rtps_known.specs.Recorded.{IsKnownOf};
-ghost use Rattle.rtps_known.specs.Tellings.{TimedAct};
-ghost use Rattle.rtps_known.specs.Untold.{AreNeverTogether, AreTogether, AreTwice, AreUntoldIn, IsAllTold, IsSaidOf, IsUntold, IsUntoldUntil, listed};
+ghost use Rattle.rtps_known.specs.Bulletins as bulletins;
+ghost use Rattle.rtps_known.specs.Recorded as recorded;
+ghost use Rattle.rtps_known.specs.Tellings as tellings;
 ghost use Rattle.rtps_known.specs.Untold as untold_spec;
 
 use crate::known::Known;
@@ -64,7 +63,7 @@ impl Untold {
 
 /// Up to when it counts that one participant tells another, by when both are there.
 fn end_of(visits: &BTreeMap<GuidPrefix, Visit>, naming: Naming) -> Option<u64>
-    ensures { MatchOption result (AreNeverTogether visits.now naming) (AreTogether visits.now naming) }
+    ensures { MatchOption result (untold_spec.AreNeverTogether visits.now naming) (untold_spec.AreTogether visits.now naming) }
 {
     let Some(one) = visits.get(&naming.source) else {
         return None;
@@ -77,7 +76,7 @@ fn end_of(visits: &BTreeMap<GuidPrefix, Visit>, naming: Naming) -> Option<u64>
 
 /// The participants of these lives.
 fn participants_of(alloc: Global, lives: &[Life]) -> Result<BTreeSet<GuidPrefix>, Memory>
-    ensures { IfOk result (λ participants. (prefix : GuidPrefixValue) → contains prefix_cmp participants prefix ≡ list_any (λ life. is_eq (prefix_cmp life.participant prefix)) lives.now) }
+    ensures { IfOk result (λ participants. (prefix : GuidPrefixValue) → contains bulletins.prefix_cmp participants prefix ≡ list_any (λ life. is_eq (bulletins.prefix_cmp life.participant prefix)) lives.now) }
 {
     let mut participants = BTreeSet::new(alloc);
     for life in lives {
@@ -94,8 +93,8 @@ impl Known {
         visits: &BTreeMap<GuidPrefix, Visit>,
         announced: &Announced<'_>,
     ) -> Result<Vec<Untold>, Memory>
-        ensures { IfOk result (λ found. (acts : List TimedAct) (announcing : List ActValue) → IsKnownOf acts self.now → IsAnnouncedBy announcing announced.now
-            → AreUntoldIn acts (record { announcing = announcing; visits = visits.now }) found.items) }
+        ensures { IfOk result (λ found. (acts : List tellings.TimedAct) (announcing : List values.ActValue) → recorded.IsKnownOf acts self.now → announcing_spec.IsAnnouncedBy announcing announced.now
+            → untold_spec.AreUntoldIn acts (record { announcing = announcing; visits = visits.now }) found.items) }
     {
         let twice = self.twice()?;
         let attending = Attending {
@@ -117,9 +116,9 @@ impl Known {
         attending: Attending<'_, '_>,
         naming: Naming,
     ) -> Result<Option<Untold>, Memory>
-        ensures { IfOk result (λ said. (acts : List TimedAct) (announcing : List ActValue) → IsKnownOf acts self.now
-            → IsAnnouncedBy announcing attending.entry.announced.now → AreTwice acts attending.entry.twice.now
-            → IsSaidOf acts (record { announcing = announcing; visits = attending.entry.visits.now }) naming said) }
+        ensures { IfOk result (λ said. (acts : List tellings.TimedAct) (announcing : List values.ActValue) → recorded.IsKnownOf acts self.now
+            → announcing_spec.IsAnnouncedBy announcing attending.entry.announced.now → untold_spec.AreTwice acts attending.entry.twice.now
+            → untold_spec.IsSaidOf acts (record { announcing = announcing; visits = attending.entry.visits.now }) naming said) }
     {
         if !may_tell(attending.announced, attending.twice, naming) {
             return Ok(None);
@@ -130,7 +129,7 @@ impl Known {
 
     /// The participants with two lives.
     fn twice(&self) -> Result<BTreeSet<GuidPrefix>, Memory>
-        ensures { IfOk result (λ twice. (acts : List TimedAct) → IsKnownOf acts self.now → AreTwice acts twice) }
+        ensures { IfOk result (λ twice. (acts : List tellings.TimedAct) → recorded.IsKnownOf acts self.now → untold_spec.AreTwice acts twice) }
     {
         let lives = self.lives()?;
         let twice = participants_of(self.alloc, &lives)?;
@@ -143,8 +142,8 @@ impl Known {
         visits: &BTreeMap<GuidPrefix, Visit>,
         naming: Naming,
     ) -> Result<Option<Untold>, Memory>
-        ensures { IfOk result (λ said. (acts : List TimedAct) → IsKnownOf acts self.now
-            → MatchOption said (IsAllTold acts visits.now naming) (IsUntold acts visits.now naming)) }
+        ensures { IfOk result (λ said. (acts : List tellings.TimedAct) → recorded.IsKnownOf acts self.now
+            → MatchOption said (untold_spec.IsAllTold acts visits.now naming) (untold_spec.IsUntold acts visits.now naming)) }
     {
         let Some(end) = end_of(visits, naming) else {
             return Ok(None);
@@ -155,7 +154,7 @@ impl Known {
 
     /// What a participant was never told of another, of what the other told up to a time.
     fn untold_until(&self, naming: Naming, end: u64) -> Result<Untold, Memory>
-        ensures { IfOk result (λ untold. (acts : List TimedAct) → IsKnownOf acts self.now → IsUntoldUntil acts naming end untold) }
+        ensures { IfOk result (λ untold. (acts : List tellings.TimedAct) → recorded.IsKnownOf acts self.now → untold_spec.IsUntoldUntil acts naming end untold) }
     {
         let publications = Guid {
             prefix: naming.source,
@@ -179,7 +178,7 @@ impl Known {
 
 /// Appends what is said of two, if it is something. After `Memory` the list is of no use.
 fn push_said(found: &mut Vec<Untold>, said: Option<Untold>) -> Result<(), Memory>
-    ensures { OnOk result (found.new.items ≡ found.old.items ++ listed said) }
+    ensures { OnOk result (found.new.items ≡ found.old.items ++ untold_spec.listed said) }
 {
     if let Some(untold) = said {
         found.push(untold)?;
@@ -189,9 +188,9 @@ fn push_said(found: &mut Vec<Untold>, said: Option<Untold>) -> Result<(), Memory
 
 /// Whether what one participant tells another may be looked at: the two differ, are not in two domains, and have one life each.
 fn may_tell(announced: &Announced<'_>, twice: &BTreeSet<GuidPrefix>, naming: Naming) -> bool
-    ensures { result ≡ untold_spec.may_tell (is_prefix naming.source naming.dest)
-        (silence.two_domains (hosts_in announced.now naming.source) (hosts_in announced.now naming.dest))
-        (contains prefix_cmp twice.now naming.source) (contains prefix_cmp twice.now naming.dest) }
+    ensures { result ≡ untold_spec.may_tell (speech.is_prefix naming.source naming.dest)
+        (silence.two_domains (announcing_spec.hosts_in announced.now naming.source) (announcing_spec.hosts_in announced.now naming.dest))
+        (contains bulletins.prefix_cmp twice.now naming.source) (contains bulletins.prefix_cmp twice.now naming.dest) }
 {
     naming.source != naming.dest
         && !two_domains(

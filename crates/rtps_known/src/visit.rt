@@ -1,5 +1,5 @@
-ghost use Rattle.std.specs.Prelude.{ℕ, ◌≡◌, ◌≤◌, ◌↔◌, MatchOption};
-ghost use Rattle.rtps_known.specs.Visits.{IsEndBetween, IsNeverInTime, min_known};
+ghost use Rattle.std.specs.Prelude.{◌≡◌, MatchOption};
+ghost use Rattle.rtps_known.specs.Visits as visits;
 
 use crate::layout::GRACE;
 
@@ -16,7 +16,7 @@ pub struct Visit {
 
 /// The earlier of two times.
 fn earlier(time: u64, other: Option<u64>) -> u64
-    ensures { result ≡ min_known time other }
+    ensures { result ≡ visits.min_known time other }
 {
     match other {
         Some(other) => time.min(other),
@@ -27,7 +27,7 @@ fn earlier(time: u64, other: Option<u64>) -> u64
 /// Up to when something counts that one participant tells another: a second before either leaves, and before the last datagram of the other.
 /// None where that is not known, or they are announced later.
 pub(crate) fn end_between(one: Visit, other: Visit) -> Option<u64>
-    ensures { MatchOption result (IsNeverInTime one other) (IsEndBetween one other) }
+    ensures { MatchOption result (visits.IsNeverInTime one other) (visits.IsEndBetween one other) }
 {
     let gone = earlier(earlier(other.last?, one.left), other.left);
     let end = gone.checked_sub(GRACE)?;

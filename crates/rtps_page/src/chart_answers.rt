@@ -83,8 +83,10 @@ fn push_answers(
     ensures before { writer.new.before ≡ writer.old.before }
 {
     writer.begin_object()?;
-    push_guid(writer, text, "writer", pair.writer)?;
-    push_guid(writer, text, "reader", pair.reader)?;
+    writer.key("writer")?;
+    push_guid(writer, text, pair.writer)?;
+    writer.key("reader")?;
+    push_guid(writer, text, pair.reader)?;
     writer.key("bases")?;
     writer.begin_array()?;
     for placed in answers {

@@ -15,7 +15,7 @@ use json::Writer;
 use rtps_audit::Index;
 use rtps_discovery::Pair;
 use rtps_ids::Guid;
-use rtps_json::{Clock, push_seconds};
+use rtps_json::{Clock, push_second};
 use std::alloc::{AllocError, Global};
 
 /// Adds the datagrams in which a writer says something that has an entry.
@@ -112,7 +112,12 @@ fn push_frame(writer: &mut Writer, frame: Option<u64>) -> Result<(), AllocError>
 }
 
 /// Appends a datagram, its second and its frame, where it has a time.
-fn push_time(writer: &mut Writer, clock: Clock<'_>, datagram: u64) -> Result<(), AllocError>
+fn push_time(
+    writer: &mut Writer,
+    text: &mut String,
+    clock: Clock<'_>,
+    datagram: u64,
+) -> Result<(), AllocError>
     ensures tokens { OnOk result (writer.new.tokens
         ≡ writer.old.tokens ++ flat_map json_tokens (chart_times.time_of_json (json_text.clock_times clock.entry) datagram)) }
     ensures before { writer.new.before ≡ writer.old.before }
@@ -122,13 +127,14 @@ fn push_time(writer: &mut Writer, clock: Clock<'_>, datagram: u64) -> Result<(),
     };
     writer.begin_array()?;
     writer.u64(datagram)?;
-    push_seconds(writer, second, clock.alloc)?;
+    push_second(writer, text, second)?;
     push_frame(writer, frame_of(clock, datagram))?;
     writer.end_array()
 }
 
 fn push_each_time(
     writer: &mut Writer,
+    text: &mut String,
     clock: Clock<'_>,
     datagrams: &[u64],
 ) -> Result<(), AllocError>
@@ -137,7 +143,7 @@ fn push_each_time(
     ensures before { writer.new.before ≡ writer.old.before }
 {
     for datagram in datagrams {
-        push_time(writer, clock, *datagram)?;
+        push_time(writer, text, clock, *datagram)?;
     }
     Ok(())
 }
@@ -157,8 +163,9 @@ pub(crate) fn push_times(
         return Ok(());
     }
     let datagrams = datagrams_shown(clock.alloc, index, pairs)?;
+    let mut text = String::new(clock.alloc);
     writer.key("times")?;
     writer.begin_array()?;
-    push_each_time(writer, clock, &datagrams)?;
+    push_each_time(writer, &mut text, clock, &datagrams)?;
     writer.end_array()
 }

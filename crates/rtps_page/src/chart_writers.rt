@@ -44,7 +44,8 @@ fn push_writer(
 {
     let acts = index.acts_of(guid);
     writer.begin_object()?;
-    push_guid(writer, text, "guid", guid)?;
+    writer.key("guid")?;
+    push_guid(writer, text, guid)?;
     writer.key("acts")?;
     writer.begin_array()?;
     for placed in acts {

@@ -1,18 +1,17 @@
-ghost use Rattle.std.specs.Prelude.{◌≡◌, ◌++◌, map, OnOk};
-ghost use Rattle.json.specs.Tree.{json_tokens};
-ghost use Rattle.rtps_evidence.specs.Explanation as explanation;
-ghost use Rattle.rtps_json.specs.JsonText as json_text;
-ghost use Rattle.rtps_lines.specs.Lines as lines;
-ghost use Rattle.rtps_page.specs.Joining as joining;
+ghost use Rattle.std.specs.Prelude.{◌≡◌, ◌++◌, map, IfOk, OnOk};
+ghost use Rattle.rtps_evidence.specs.Explanation.{explanation_value};
+ghost use Rattle.rtps_json.specs.JsonText.{clock_times, tokens_of_member};
+ghost use Rattle.rtps_json.specs.Values.{value_json};
+ghost use Rattle.rtps_page.specs.Joining.{joined_in, joined_json, joined_member};
 
 use json::Writer;
 use rtps_evidence::{Explanation, Location};
-use rtps_json::{Clock, push_seconds};
+use rtps_json::{Clock, Made, Value, array, push_value, some_second};
 use std::alloc::AllocError;
 
 /// Where the reader of a row joins; None where it does not, or was there before the recording.
 fn joined_of(row: &Explanation<'_>) -> Option<Location>
-    ensures { result ≡ joining.joined_in (explanation.explanation_value row.now).evidence.in_span }
+    ensures { result ≡ joined_in (explanation_value row.now).evidence.in_span }
 {
     let Some(in_span) = &row.evidence.in_span else {
         return None;
@@ -24,50 +23,36 @@ fn joined_of(row: &Explanation<'_>) -> Option<Location>
     }
 }
 
-/// Appends the second of a datagram, or null where it has none.
-fn push_second(writer: &mut Writer, clock: Clock<'_>, datagram: u64) -> Result<(), AllocError>
-    ensures tokens { OnOk result (writer.new.tokens
-        ≡ writer.old.tokens ++ json_tokens (json_text.second_json (lines.second_in (json_text.clock_times clock.entry) datagram))) }
-    ensures before { writer.new.before ≡ writer.old.before }
-{
-    match clock.times.second(datagram) {
-        Some(second) => push_seconds(writer, second, clock.alloc),
-        None => writer.null(),
-    }
-}
-
-fn push_joined(
-    writer: &mut Writer,
-    clock: Clock<'_>,
-    joined: Option<Location>,
-) -> Result<(), AllocError>
-    ensures tokens { OnOk result (writer.new.tokens ≡ writer.old.tokens ++ json_tokens (joining.joined_json (json_text.clock_times clock.entry) joined)) }
-    ensures before { writer.new.before ≡ writer.old.before }
+fn joined_value(joined: Option<Location>, clock: Clock<'_>) -> Made<Value>
+    ensures { IfOk result (λ value. value_json value ≡ joined_json (clock_times clock.entry) joined) }
 {
     let Some(place) = joined else {
-        return writer.null();
+        return Ok(Value::Null);
     };
-    writer.begin_array()?;
-    writer.u64(place.datagram)?;
-    writer.u64(place.at as u64)?;
-    push_second(writer, clock, place.datagram)?;
-    writer.end_array()
+    let values = vec![in clock.alloc;
+        Value::Count(place.datagram),
+        Value::Count(place.at as u64),
+        some_second(clock.times.second(place.datagram)),
+    ]?;
+    Ok(array(values))
 }
 
 /// Appends where the reader of each row joins.
 pub(crate) fn push_all_joined(
     writer: &mut Writer,
+    text: &mut String,
     clock: Clock<'_>,
     rows: &[Explanation<'_>],
 ) -> Result<(), AllocError>
     ensures tokens { OnOk result (writer.new.tokens
-        ≡ writer.old.tokens ++ json_text.tokens_of_member (joining.joined_member (json_text.clock_times clock.entry) (map explanation.explanation_value rows.now))) }
+        ≡ writer.old.tokens ++ tokens_of_member (joined_member (clock_times clock.entry) (map explanation_value rows.now))) }
     ensures before { writer.new.before ≡ writer.old.before }
 {
     writer.key("joined")?;
     writer.begin_array()?;
     for row in rows {
-        push_joined(writer, clock, joined_of(row))?;
+        let joined = joined_value(joined_of(row), clock)?;
+        push_value(writer, text, &joined)?;
     }
     writer.end_array()
 }

@@ -1,13 +1,11 @@
-ghost use Rattle.std.specs.Prelude.{◌≡◌, ◌++◌, ◌∷◌, OnOk};
-ghost use Rattle.json.specs.Token.{key};
-ghost use Rattle.json.specs.Tree.{json_tokens};
-ghost use Rattle.rtps_json.specs.JsonText as json_text;
+ghost use Rattle.std.specs.Prelude.{◌≡◌, IfOk};
+ghost use Rattle.rtps_json.specs.Values.{member_json, value_json};
+ghost use Rattle.rtps_page.specs.Origin.{moment_json, origin_value};
 ghost use Rattle.rtps_page.specs.Origin as origin_spec;
 
-use json::Writer;
 use rtps_evidence::Times;
-use rtps_json::push_text;
-use std::alloc::AllocError;
+use rtps_json::{Made, Member, Value, object};
+use std::alloc::Global;
 
 /// How many nanoseconds a millisecond has.
 const MILLISECOND: u64 = 1_000_000;
@@ -21,42 +19,27 @@ pub struct Origin<'a> {
     pub version: &'a str,
 }
 
-fn push_moment(writer: &mut Writer, name: &str, moment: Option<u64>) -> Result<(), AllocError>
-    ensures tokens { OnOk result (writer.new.tokens ≡ writer.old.tokens ++ key name.now ∷ json_tokens (origin_spec.moment_json moment)) }
-    ensures before { writer.new.before ≡ writer.old.before }
+/// A moment in milliseconds; null where there is none.
+fn moment(nanoseconds: Option<u64>) -> Value
+    ensures { value_json result ≡ moment_json nanoseconds }
 {
-    writer.key(name)?;
-    match moment {
-        Some(nanoseconds) => writer.u64(nanoseconds / MILLISECOND),
-        None => writer.null(),
+    match nanoseconds {
+        Some(nanoseconds) => Value::Count(nanoseconds / MILLISECOND),
+        None => Value::Null,
     }
 }
 
-fn push_recording_members(
-    writer: &mut Writer,
-    origin: Origin<'_>,
-    times: &Times,
-) -> Result<(), AllocError>
-    ensures tokens { OnOk result (writer.new.tokens ≡ writer.old.tokens ++ json_text.tokens_of (origin_spec.recording_members (origin_spec.origin_value origin.entry) times.now)) }
-    ensures before { writer.new.before ≡ writer.old.before }
+/// Which recording the page is of.
+pub(crate) fn recording_member(origin: Origin<'_>, times: &Times, alloc: Global) -> Made<Member>
+    ensures { IfOk result (λ member. member_json member ≡ origin_spec.recording_member (origin_value origin.entry) times.now) }
 {
-    push_text(writer, "name", origin.name)?;
-    push_text(writer, "version", origin.version)?;
-    push_moment(writer, "begin", times.of_datagram(1))?;
-    push_moment(writer, "end", times.of_last_frame())
-}
-
-/// Appends which recording the page is of.
-pub(crate) fn push_recording(
-    writer: &mut Writer,
-    origin: Origin<'_>,
-    times: &Times,
-) -> Result<(), AllocError>
-    ensures tokens { OnOk result (writer.new.tokens ≡ writer.old.tokens ++ json_text.tokens_of_member (origin_spec.recording_member (origin_spec.origin_value origin.entry) times.now)) }
-    ensures before { writer.new.before ≡ writer.old.before }
-{
-    writer.key("recording")?;
-    writer.begin_object()?;
-    push_recording_members(writer, origin, times)?;
-    writer.end_object()
+    let name = String::from_str(alloc, origin.name)?;
+    let version = String::from_str(alloc, origin.version)?;
+    let members = vec![in alloc;
+        ("name", Value::Text(name)),
+        ("version", Value::Text(version)),
+        ("begin", moment(times.of_datagram(1))),
+        ("end", moment(times.of_last_frame())),
+    ]?;
+    Ok(("recording", object(members)))
 }

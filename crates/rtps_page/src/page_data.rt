@@ -1,25 +1,26 @@
-ghost use Rattle.std.specs.Prelude.{◌≡◌, ◌++◌, ◌∷◌, [], codes, IfOk, OnOk};
-ghost use Rattle.json.specs.Token.{boolean, key};
-ghost use Rattle.json.specs.Tree.{json_tokens};
-ghost use Rattle.rtps_audit.specs.Index as index_spec;
-ghost use Rattle.rtps_audit.specs.Intake as intake;
-ghost use Rattle.rtps_audit.specs.Placed as placed;
-ghost use Rattle.rtps_report.specs.Asked as asked_spec;
-ghost use Rattle.rtps_json.specs.JsonText as json_text;
-ghost use Rattle.rtps_page.specs.Page as page;
+ghost use Rattle.std.specs.Prelude.{◌≡◌, ◌++◌, IfOk, OnOk, map, string_bytes};
+ghost use Rattle.json.specs.Json.{string};
+ghost use Rattle.rtps_audit.specs.Index.{IsIndexBy};
+ghost use Rattle.rtps_audit.specs.Intake.{Intake};
+ghost use Rattle.rtps_audit.specs.Placed.{placed_in};
+ghost use Rattle.rtps_report.specs.Asked.{asked_value};
+ghost use Rattle.rtps_json.specs.JsonText.{array_of, clock_times, tokens_of};
+ghost use Rattle.rtps_json.specs.Values.{member_json, value_json};
+ghost use Rattle.rtps_page.specs.Page.{IsPrinted, chart_members, expect_json, intake_in, json_in, members_in};
+ghost use Rattle.rtps_page.specs.Page as page_spec;
 
 use crate::chart_answers::push_all_answers;
 use crate::chart_room::pairs_with_charts;
 use crate::chart_times::push_times;
 use crate::chart_writers::push_writers;
 use crate::joining::push_all_joined;
-use crate::origin::{Origin, push_recording};
+use crate::origin::{Origin, recording_member};
 use crate::page_directory::push_directory;
 use json::Writer;
 use rtps_audit::Index;
 use rtps_discovery::{Directory, Pair};
 use rtps_ids::Memory;
-use rtps_json::{Clock, push_check_members, push_count, push_texts};
+use rtps_json::{Clock, Made, Member, Value, array, object, push_check_members, push_member};
 use rtps_report::{Asked, FullReport};
 use std::alloc::{AllocError, Global};
 
@@ -31,45 +32,41 @@ pub(crate) struct Shown<'r, 'a> {
     pub(crate) origin: Origin<'r>,
 }
 
-fn push_flag(writer: &mut Writer, name: &str, flag: bool) -> Result<(), AllocError>
-    ensures tokens { OnOk result (writer.new.tokens ≡ writer.old.tokens ++ key name.now ∷ boolean flag ∷ []) }
-    ensures before { writer.new.before ≡ writer.old.before }
+/// How many rows were expected; null where that is not asked.
+fn expected(expect: Option<u64>) -> Value
+    ensures { value_json result ≡ expect_json expect }
 {
-    writer.key(name)?;
-    writer.boolean(flag)
-}
-
-fn push_expect(writer: &mut Writer, expect: Option<u64>) -> Result<(), AllocError>
-    ensures tokens { OnOk result (writer.new.tokens ≡ writer.old.tokens ++ key (codes "expect") ∷ json_tokens (page.expect_json expect)) }
-    ensures before { writer.new.before ≡ writer.old.before }
-{
-    writer.key("expect")?;
     match expect {
-        Some(rows) => writer.u64(rows),
-        None => writer.null(),
+        Some(rows) => Value::Count(rows),
+        None => Value::Null,
     }
 }
 
-fn push_option_members(writer: &mut Writer, asked: &Asked<'_>) -> Result<(), AllocError>
-    ensures tokens { OnOk result (writer.new.tokens ≡ writer.old.tokens ++ json_text.tokens_of (page.option_members (asked_spec.asked_value asked.now))) }
-    ensures before { writer.new.before ≡ writer.old.before }
+#[tactic(auto, using(rtps_json::proofs::Offered::one_more))]
+fn texts(told: &[String], alloc: Global) -> Made<Value>
+    ensures { IfOk result (λ value. value_json value ≡ array_of (map string (map string_bytes told.now))) }
 {
-    push_count(writer, "from", asked.first_asked())?;
-    push_texts(writer, "topics", asked.topics)?;
-    push_texts(writer, "nodes", asked.nodes)?;
-    push_expect(writer, asked.expect)?;
-    push_count(writer, "tail", asked.tail)?;
-    push_flag(writer, "certain", asked.certain)
+    let mut values = Vec::new(alloc);
+    for text in told {
+        values.push(Value::Text(String::from_str(alloc, text)?))?;
+    }
+    Ok(array(values))
 }
 
-fn push_options(writer: &mut Writer, asked: &Asked<'_>) -> Result<(), AllocError>
-    ensures tokens { OnOk result (writer.new.tokens ≡ writer.old.tokens ++ json_text.tokens_of_member (page.options_member (asked_spec.asked_value asked.now))) }
-    ensures before { writer.new.before ≡ writer.old.before }
+fn options_member(asked: &Asked<'_>, alloc: Global) -> Made<Member>
+    ensures { IfOk result (λ member. member_json member ≡ page_spec.options_member (asked_value asked.now)) }
 {
-    writer.key("options")?;
-    writer.begin_object()?;
-    push_option_members(writer, asked)?;
-    writer.end_object()
+    let topics = texts(asked.topics, alloc)?;
+    let nodes = texts(asked.nodes, alloc)?;
+    let members = vec![in alloc;
+        ("from", Value::Count(asked.first_asked())),
+        ("topics", topics),
+        ("nodes", nodes),
+        ("expect", expected(asked.expect)),
+        ("tail", Value::Count(asked.tail)),
+        ("certain", Value::Flag(asked.certain)),
+    ]?;
+    Ok(("options", object(members)))
 }
 
 fn push_charts(
@@ -78,8 +75,8 @@ fn push_charts(
     index: &Index<'_>,
     pairs: &[Pair],
 ) -> Result<(), AllocError>
-    ensures tokens { (intake : intake.Intake) → index_spec.IsIndexBy intake index.now
-        → OnOk result (writer.new.tokens ≡ writer.old.tokens ++ json_text.tokens_of (page.chart_members (json_text.clock_times clock.entry) (placed.placed_in intake.acts) pairs.now)) }
+    ensures tokens { (intake : Intake) → IsIndexBy intake index.now
+        → OnOk result (writer.new.tokens ≡ writer.old.tokens ++ tokens_of (chart_members (clock_times clock.entry) (placed_in intake.acts) pairs.now)) }
     ensures before { writer.new.before ≡ writer.old.before }
 {
     push_writers(clock.alloc, writer, index, pairs)?;
@@ -93,8 +90,8 @@ fn push_members(
     shown: &Shown<'_, '_>,
     pairs: &[Pair],
 ) -> Result<(), Memory>
-    requires { index_spec.IsIndexBy (page.intake_in shown.now) shown.now.report.now.index }
-    ensures tokens { OnOk result (writer.new.tokens ≡ writer.old.tokens ++ json_text.tokens_of (page.members_in shown.now pairs.now)) }
+    requires { IsIndexBy (intake_in shown.now) shown.now.report.now.index }
+    ensures tokens { OnOk result (writer.new.tokens ≡ writer.old.tokens ++ tokens_of (members_in shown.now pairs.now)) }
     ensures before { writer.new.before ≡ writer.old.before }
 {
     let report = shown.report;
@@ -105,17 +102,19 @@ fn push_members(
         framed: true,
     };
     push_check_members(alloc, writer, report)?;
-    push_recording(writer, shown.origin, clock.times)?;
-    push_options(writer, report.asked)?;
-    push_directory(writer, &mut text, shown.directory)?;
-    push_all_joined(writer, clock, &report.explained.rows)?;
+    let recording = recording_member(shown.origin, clock.times, alloc)?;
+    push_member(writer, &mut text, &recording)?;
+    let options = options_member(report.asked, alloc)?;
+    push_member(writer, &mut text, &options)?;
+    push_directory(alloc, writer, &mut text, shown.directory)?;
+    push_all_joined(writer, &mut text, clock, &report.explained.rows)?;
     push_charts(writer, clock, &report.index, pairs)?;
     Ok(())
 }
 
 pub(crate) fn data_of(alloc: Global, shown: &Shown<'_, '_>) -> Result<Vec<u8>, Memory>
-    requires { index_spec.IsIndexBy (page.intake_in shown.now) shown.now.report.now.index }
-    ensures { IfOk result (λ text. page.IsPrinted (page.json_in shown.now) text.items) }
+    requires { IsIndexBy (intake_in shown.now) shown.now.report.now.index }
+    ensures { IfOk result (λ text. IsPrinted (json_in shown.now) text.items) }
 {
     let report = shown.report;
     let pairs = pairs_with_charts(

@@ -1,52 +1,54 @@
-ghost use Rattle.std.specs.Prelude.{◌≡◌, ◌++◌, OnOk};
-ghost use Rattle.json.specs.Tree.{json_tokens};
-ghost use Rattle.rtps_discovery.specs.Endpoint as endpoint_spec;
-ghost use Rattle.rtps_json.specs.JsonText as json_text;
-ghost use Rattle.rtps_page.specs.Page as page;
+ghost use Rattle.std.specs.Prelude.{◌≡◌, ◌++◌, IfOk, OnOk};
+ghost use Rattle.rtps_discovery.specs.Endpoint.{endpoint_value};
+ghost use Rattle.rtps_json.specs.JsonText.{tokens_of_member};
+ghost use Rattle.rtps_json.specs.Values.{value_json};
+ghost use Rattle.rtps_page.specs.Page.{directory_member, endpoint_json};
 
 use json::Writer;
 use rtps_discovery::{Directory, Endpoint};
 use rtps_ids::Memory;
-use rtps_json::{push_guid, push_name, push_text};
+use rtps_json::{Made, Value, name, object, push_value};
 use rtps_lines::{durability_name, reliability_name, side_name};
-use std::alloc::AllocError;
+use std::alloc::Global;
 
-fn push_endpoint(
-    writer: &mut Writer,
-    text: &mut String,
-    endpoint: &Endpoint<'_>,
-) -> Result<(), AllocError>
-    ensures tokens { OnOk result (writer.new.tokens ≡ writer.old.tokens ++ json_tokens (page.endpoint_json (endpoint_spec.endpoint_value endpoint.now))) }
-    ensures before { writer.new.before ≡ writer.old.before }
+fn endpoint_object(endpoint: &Endpoint<'_>, alloc: Global) -> Made<Value>
+    ensures { IfOk result (λ value. value_json value ≡ endpoint_json (endpoint_value endpoint.now)) }
 {
-    writer.begin_object()?;
-    push_guid(writer, text, "guid", endpoint.guid)?;
-    push_text(writer, "side", side_name(endpoint.side))?;
-    push_name(writer, text, "topic", endpoint.topic)?;
-    push_name(writer, text, "type", endpoint.type_name)?;
-    push_text(
-        writer,
-        "reliability",
-        reliability_name(endpoint.reliability),
-    )?;
-    push_text(writer, "durability", durability_name(endpoint.durability))?;
-    writer.end_object()
+    let topic = name(endpoint.topic, alloc)?;
+    let type_name = name(endpoint.type_name, alloc)?;
+    let members = vec![in alloc;
+        ("guid", Value::Guid(endpoint.guid)),
+        ("side", Value::Word(side_name(endpoint.side))),
+        ("topic", topic),
+        ("type", type_name),
+        (
+            "reliability",
+            Value::Word(reliability_name(endpoint.reliability))
+        ),
+        (
+            "durability",
+            Value::Word(durability_name(endpoint.durability))
+        ),
+    ]?;
+    Ok(object(members))
 }
 
 pub(crate) fn push_directory(
+    alloc: Global,
     writer: &mut Writer,
     text: &mut String,
     directory: &Directory<'_>,
 ) -> Result<(), Memory>
     ensures tokens { OnOk result (writer.new.tokens
-        ≡ writer.old.tokens ++ json_text.tokens_of_member (page.directory_member directory.now)) }
+        ≡ writer.old.tokens ++ tokens_of_member (directory_member directory.now)) }
     ensures before { writer.new.before ≡ writer.old.before }
 {
     let endpoints = directory.endpoints()?;
     writer.key("endpoints")?;
     writer.begin_array()?;
     for endpoint in &endpoints {
-        push_endpoint(writer, text, endpoint)?;
+        let object = endpoint_object(endpoint, alloc)?;
+        push_value(writer, text, &object)?;
     }
     writer.end_array()?;
     Ok(())

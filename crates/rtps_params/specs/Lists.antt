@@ -3,9 +3,8 @@
 use Rattle.std.specs.Prelude.{ℕ, nat_eq, Bool, true, false, ◌&&◌, List}
 use Rattle.std.specs.Cmp.Lexicographic.{pointwise}
 use Rattle.rtps_ids.specs.declared.order.Order.{Order}
-use Rattle.rtps_ids.specs.declared.order.Order.TheVariants.{Big, Little}
-use Rattle.rtps_params.specs.Grammar.{Pairs}
-use Rattle.rtps_params.specs.Reading.{pairs_of}
+use Rattle.rtps_params.specs.Grammar as grammar
+use Rattle.rtps_params.specs.Reading as reading
 use Rattle.rtps_params.specs.declared.list.ParamList.{ParamList}
 
 -- its octets, sentinel included
@@ -17,8 +16,8 @@ abbrev pub list_order : ParamList → Order
 list_order list = list.order
 
 -- its ids and values in order, without pads
-abbrev pub list_pairs : ParamList → Pairs
-list_pairs list = pairs_of list.order list.octets.now
+abbrev pub list_pairs : ParamList → grammar.Pairs
+list_pairs list = reading.pairs_of list.order list.octets.now
 
 -- a list as its order and its octets
 pub record ListValue : Type 0 where
@@ -31,8 +30,8 @@ list_value list = record { order = list.order; octets = list.octets.now }
 
 -- whether two orders are the same
 abbrev pub is_same_order : Order → Order → Bool
-is_same_order Big Big = true
-is_same_order Little Little = true
+is_same_order Order.Big Order.Big = true
+is_same_order Order.Little Order.Little = true
 is_same_order _ _ = false
 
 -- whether two parameter lists are the same

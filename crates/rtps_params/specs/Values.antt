@@ -1,10 +1,10 @@
 -- Values of parameters: a text, a GUID and a number. Each is at the beginning of a value, and octets after it are
 -- ignored. DDSI-RTPS 2.5, 9.3.2 "Mapping of the Types that Appear Within Submessages or Built-in Topic Data".
 use Rattle.std.specs.Prelude.{◌≡◌, ◌==◌, ◌⊎◌, ℕ, ◌+◌, ◌-◌, nat_le, ◌&&◌, if◌then◌else◌, List, [], ◌∷◌, ◌++◌, length, take, drop, slice_index, Option, Some, None}
-use Rattle.rtps_ids.specs.Octets.{number_of}
+use Rattle.rtps_ids.specs.Octets as octets
 use Rattle.rtps_ids.specs.declared.identity.Guid.{Guid}
 use Rattle.rtps_ids.specs.declared.order.Order.{Order}
-use Rattle.rtps_params.specs.declared.layout.value.TheConstants.{ENTITY_SIZE, NAME, NUMBER_SIZE, PREFIX_SIZE}
+use Rattle.rtps_params.specs.declared.layout.value.TheConstants as value_layout
 
 -- a value that spells this name: a length of four octets, the name and a NUL; the length counts the NUL too. Octets
 -- after that are ignored. own: a length of 0 spells the empty name too, although there is no NUL. own: a name may have
@@ -12,22 +12,22 @@ use Rattle.rtps_params.specs.declared.layout.value.TheConstants.{ENTITY_SIZE, NA
 pub record SpellsText (order : Order) (name value : List ℕ) : Type 0 where
   pub size : List ℕ
   pub behind : List ℕ
-  pub four_octets : length size ≡ NAME
+  pub four_octets : length size ≡ value_layout.NAME
   pub whole : value ≡ size ++ behind
   pub named :
-      ((number_of order 4 size ≡ length name + 1) × ((ignored : List ℕ) × (behind ≡ name ++ 0 ∷ ignored))) ⊎ ((number_of order 4 size ≡ 0) × (name ≡ []))
+      ((octets.number_of order 4 size ≡ length name + 1) × ((ignored : List ℕ) × (behind ≡ name ++ 0 ∷ ignored))) ⊎ ((octets.number_of order 4 size ≡ 0) × (name ≡ []))
 
 -- the length at the beginning of a text
 abbrev pub text_size : Order → List ℕ → ℕ
-text_size order value = number_of order 4 value
+text_size order value = octets.number_of order 4 value
 
 -- the name that a value spells, if it spells one
 abbrev pub text_of : Order → List ℕ → Option (List ℕ)
 text_of order value =
-    if nat_le NAME (length value)
+    if nat_le value_layout.NAME (length value)
     then (if text_size order value == 0 then Some []
-    else if nat_le (NAME + text_size order value) (length value) && (slice_index value (NAME - 1 + text_size order value) == 0)
-    then Some (take (text_size order value - 1) (drop NAME value))
+    else if nat_le (value_layout.NAME + text_size order value) (length value) && (slice_index value (value_layout.NAME - 1 + text_size order value) == 0)
+    then Some (take (text_size order value - 1) (drop value_layout.NAME value))
     else None)
     else None
 
@@ -35,10 +35,10 @@ text_of order value =
 -- Identifier (GUID)")
 abbrev pub guid_of : List ℕ → Option Guid
 guid_of value =
-    if nat_le (PREFIX_SIZE + ENTITY_SIZE) (length value)
-    then Some (record { prefix = record { 0 = take PREFIX_SIZE value }; entity = record { 0 = take ENTITY_SIZE (drop PREFIX_SIZE value) } })
+    if nat_le (value_layout.PREFIX_SIZE + value_layout.ENTITY_SIZE) (length value)
+    then Some (record { prefix = record { 0 = take value_layout.PREFIX_SIZE value }; entity = record { 0 = take value_layout.ENTITY_SIZE (drop value_layout.PREFIX_SIZE value) } })
     else None
 
 -- the number in the first four octets
 abbrev pub u32_of : Order → List ℕ → Option ℕ
-u32_of order value = if nat_le NUMBER_SIZE (length value) then Some (number_of order 4 value) else None
+u32_of order value = if nat_le value_layout.NUMBER_SIZE (length value) then Some (octets.number_of order 4 value) else None

@@ -1,5 +1,5 @@
 ghost use Rattle.std.specs.Prelude.{◌≡◌, Some};
-ghost use Rattle.rtps_params.specs.FaultText.{list_fault_name, list_fault_number};
+ghost use Rattle.rtps_params.specs.FaultText as fault_text;
 
 use std::error::Error;
 use std::fmt;
@@ -20,14 +20,14 @@ pub enum ListFault {
 impl ListFault {
     /// Its number, from 3 on, after those of `ParamFault`.
     pub fn number(self) -> u8
-        ensures { result ≡ list_fault_number self }
+        ensures { result ≡ fault_text.list_fault_number self }
     {
         self as u8
     }
 }
 
 impl fmt::Display for ListFault {
-    ghost output = { λ fault. Some (list_fault_name fault) };
+    ghost output = { λ fault. Some (fault_text.list_fault_name fault) };
 
     /// Its name.
     #[tactic(auto, unfolding(crate::specs::FaultText::list_fault_name))]

@@ -1,5 +1,5 @@
 ghost use Rattle.std.specs.Prelude.{◌≡◌};
-ghost use Rattle.rtps_params.specs.Reading.{pairs_of};
+ghost use Rattle.rtps_params.specs.Reading as reading;
 
 use crate::layout::pid::PAD;
 use crate::parameter::front;
@@ -16,18 +16,18 @@ pub struct Params<'a> {
 
 impl<'a> Model for Params<'a> {
     ghost use Rattle.std.specs.Prelude.{ℕ, List};
-    ghost use Rattle.rtps_params.specs.Reading.{pairs_of};
+    ghost use Rattle.rtps_params.specs.Reading as reading;
 
     // the pairs that are still to come
     ghost Value = { List (ℕ × List ℕ) };
 
-    ghost view = { λ params. pairs_of params.order params.rest.now };
+    ghost view = { λ params. reading.pairs_of params.order params.rest.now };
 }
 
 impl<'a> Params<'a> {
     /// The parameters at the beginning of octets, up to a sentinel or a fault.
     pub(crate) fn new(octets: &'a [u8], order: Order) -> Params<'a>
-        ensures { result ≡ pairs_of order octets.now }
+        ensures { result ≡ reading.pairs_of order octets.now }
     {
         Params {
             rest: octets,
@@ -38,11 +38,11 @@ impl<'a> Params<'a> {
 
 impl<'a> Iterator for Params<'a> {
     ghost use Rattle.std.specs.Iterator.{YieldsFirstBy, item_count};
-    ghost use Rattle.rtps_params.specs.Item.{pair_of};
+    ghost use Rattle.rtps_params.specs.Item as item;
 
     type Item = (u16, &'a [u8]);
 
-    ghost next_gives = { YieldsFirstBy pair_of (λ params. params) };
+    ghost next_gives = { YieldsFirstBy item.pair_of (λ params. params) };
 
     ghost remaining = { item_count (λ params. params) };
 

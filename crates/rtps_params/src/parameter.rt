@@ -1,7 +1,7 @@
 ghost use Rattle.std.specs.Prelude.{◌≡◌, MatchOption, MatchResult};
-ghost use Rattle.rtps_params.specs.Grammar.{IsCut};
-ghost use Rattle.rtps_params.specs.Parameter.{BeginsWith, BeginsWithSentinel};
-ghost use Rattle.rtps_params.specs.Reading.{list_end};
+ghost use Rattle.rtps_params.specs.Grammar as grammar;
+ghost use Rattle.rtps_params.specs.Parameter as parameter_spec;
+ghost use Rattle.rtps_params.specs.Reading as reading;
 
 use crate::fault::ParamFault;
 use crate::layout::parameter::{HEADER, LENGTH};
@@ -19,9 +19,9 @@ pub(crate) struct Parameter<'a> {
 /// The parameter at the beginning of the octets, or None if a sentinel is there.
 pub(crate) fn front(octets: &[u8], order: Order) -> Result<Option<Parameter<'_>>, ParamFault>
     ensures { MatchResult result
-        (λ found. MatchOption found (BeginsWithSentinel order octets.now)
-        (λ parameter. BeginsWith order octets.now parameter))
-        (λ fault. IsCut order fault octets.now) }
+        (λ found. MatchOption found (parameter_spec.BeginsWithSentinel order octets.now)
+        (λ parameter. parameter_spec.BeginsWith order octets.now parameter))
+        (λ fault. grammar.IsCut order fault octets.now) }
 {
     let (Some(pid), Some(length)) = (u16_at(order, octets, 0), u16_at(order, octets, LENGTH)) else {
         return Err(ParamFault::CutHeader);
@@ -40,7 +40,7 @@ pub(crate) fn front(octets: &[u8], order: Order) -> Result<Option<Parameter<'_>>
 
 /// How many octets the list at the beginning takes, sentinel included.
 pub(crate) fn list_size(octets: &[u8], order: Order) -> Result<usize, ParamFault>
-    ensures { result ≡ list_end order octets.now }
+    ensures { result ≡ reading.list_end order octets.now }
 {
     let mut rest = octets;
     while let Some(parameter) = front(rest, order)? {

@@ -1,6 +1,6 @@
 ghost use Rattle.std.specs.Prelude.{◌≡◌, ◌≤◌, ◌<◌, ◌+◌, ◌++◌, map, take, length, Some, None, Err, OnOk, OnErr, MatchResult, vec_capacity, vec_len};
-ghost use Rattle.rtps_params.specs.Item.{pair_of};
-ghost use Rattle.rtps_params.specs.Writing.{list_fault, parameter_fault, parameter_octets, written_list};
+ghost use Rattle.rtps_params.specs.Item as item;
+ghost use Rattle.rtps_params.specs.Writing as writing;
 ghost use Rattle.rtps_params.specs.declared.layout.parameter.TheConstants.{LONGEST_VALUE as longest_value};
 ghost use Rattle.rtps_params.specs.declared.list_fault.ListFault.{ListFault as Fault};
 ghost use Rattle.rtps_params.specs.declared.list_fault.ListFault.TheVariants.{Memory as NoRoom};
@@ -17,10 +17,10 @@ use rtps_ids::{Memory, Order, put_u16};
 /// written gives the fault. `Memory` is returned only if all can be written and there is no room for the octets. After
 /// a fault `out` is as it was.
 pub fn write_list(params: &[(u16, &[u8])], order: Order, out: &mut Vec<u8>) -> Result<(), ListFault>
-    ensures refused { (fault : Fault) → list_fault (map pair_of params.now) ≡ Some fault → result ≡ Err fault }
-    ensures written { list_fault (map pair_of params.now) ≡ None → MatchResult result
-        (λ _. out.new.items ≡ out.old.items ++ written_list order (map pair_of params.now))
-        (λ fault. (fault ≡ NoRoom) × (vec_capacity out.old < vec_len out.old + length (written_list order (map pair_of params.now)))) }
+    ensures refused { (fault : Fault) → writing.list_fault (map item.pair_of params.now) ≡ Some fault → result ≡ Err fault }
+    ensures written { writing.list_fault (map item.pair_of params.now) ≡ None → MatchResult result
+        (λ _. out.new.items ≡ out.old.items ++ writing.written_list order (map item.pair_of params.now))
+        (λ fault. (fault ≡ NoRoom) × (vec_capacity out.old < vec_len out.old + length (writing.written_list order (map item.pair_of params.now)))) }
     ensures kept { OnErr result (out.new.items ≡ out.old.items) }
     ensures room { vec_capacity out.old ≤ vec_capacity out.new }
 {
@@ -36,8 +36,8 @@ pub fn write_list(params: &[(u16, &[u8])], order: Order, out: &mut Vec<u8>) -> R
 /// Whether all these parameters can be written, or the fault of the first that cannot.
 fn check_params(params: &[(u16, &[u8])]) -> Result<(), ListFault>
     ensures { MatchResult result
-        (λ _. list_fault (map pair_of params.now) ≡ None)
-        (λ fault. list_fault (map pair_of params.now) ≡ Some fault) }
+        (λ _. writing.list_fault (map item.pair_of params.now) ≡ None)
+        (λ fault. writing.list_fault (map item.pair_of params.now) ≡ Some fault) }
 {
     for (pid, value) in params {
         check_param(*pid, value)?;
@@ -48,8 +48,8 @@ fn check_params(params: &[(u16, &[u8])]) -> Result<(), ListFault>
 /// Whether a parameter can be written, or why not.
 fn check_param(pid: u16, value: &[u8]) -> Result<(), ListFault>
     ensures { MatchResult result
-        (λ _. parameter_fault (pid, value.now) ≡ None)
-        (λ fault. parameter_fault (pid, value.now) ≡ Some fault) }
+        (λ _. writing.parameter_fault (pid, value.now) ≡ None)
+        (λ fault. writing.parameter_fault (pid, value.now) ≡ Some fault) }
 {
     if value.len() > LONGEST_VALUE {
         return Err(ListFault::ValueTooLong);
@@ -65,10 +65,10 @@ fn check_param(pid: u16, value: &[u8]) -> Result<(), ListFault>
 
 /// Appends parameters, and then the sentinel. If there is no room for all, some octets may be appended.
 fn put_params(params: &[(u16, &[u8])], order: Order, out: &mut Vec<u8>) -> Result<(), Memory>
-    requires { list_fault (map pair_of params.now) ≡ None }
-    ensures ok { OnOk result (out.new.items ≡ out.old.items ++ written_list order (map pair_of params.now)) }
+    requires { writing.list_fault (map item.pair_of params.now) ≡ None }
+    ensures ok { OnOk result (out.new.items ≡ out.old.items ++ writing.written_list order (map item.pair_of params.now)) }
     ensures front { take (vec_len out.old) out.new.items ≡ out.old.items }
-    ensures full { OnErr result (vec_capacity out.old < vec_len out.old + length (written_list order (map pair_of params.now))) }
+    ensures full { OnErr result (vec_capacity out.old < vec_len out.old + length (writing.written_list order (map item.pair_of params.now))) }
     ensures room { vec_capacity out.old ≤ vec_capacity out.new }
 {
     for (pid, value) in params {
@@ -82,9 +82,9 @@ fn put_params(params: &[(u16, &[u8])], order: Order, out: &mut Vec<u8>) -> Resul
 #[tactic(auto, using(crate::proofs::Written::lengths))]
 fn put_param(pid: u16, value: &[u8], order: Order, out: &mut Vec<u8>) -> Result<(), Memory>
     requires { length value.now ≤ longest_value }
-    ensures ok { OnOk result (out.new.items ≡ out.old.items ++ parameter_octets order (pid, value.now)) }
+    ensures ok { OnOk result (out.new.items ≡ out.old.items ++ writing.parameter_octets order (pid, value.now)) }
     ensures front { take (vec_len out.old) out.new.items ≡ out.old.items }
-    ensures full { OnErr result (vec_capacity out.old < vec_len out.old + length (parameter_octets order (pid, value.now))) }
+    ensures full { OnErr result (vec_capacity out.old < vec_len out.old + length (writing.parameter_octets order (pid, value.now))) }
     ensures room { vec_capacity out.old ≤ vec_capacity out.new }
 {
     put_u16(order, pid, out)?;

@@ -1,10 +1,9 @@
 -- A text is a list of parts. own: a person reads numbers, so thousands are set apart, and one thing is told as one.
 use Rattle.std.specs.Prelude.{ℕ, ◌++◌, ◌%◌, ◌==◌, ◌&&◌, nat_lt, if◌then◌else◌, List, [], ◌∷◌, codes, decimal, length, replicate}
 use Rattle.std.specs.List.{flat_map, join_by}
-use Rattle.rtps_parts.specs.Names.{octet_text}
-use Rattle.rtps_parts.specs.RosNames.{topic_text, type_text}
+use Rattle.rtps_parts.specs.Names as names
+use Rattle.rtps_parts.specs.RosNames as ros_names
 use Rattle.rtps_parts.specs.declared.part.Part.{Part}
-use Rattle.rtps_parts.specs.declared.part.Part.TheVariants.{Text, Name, TopicName, TypeName, Grouped, Share, Amount, Spaces}
 use Rattle.rtps_parts.specs.declared.part.Words.{Words}
 
 -- a comma (44) before so many digits, where these are threes
@@ -47,11 +46,11 @@ joined separator texts = join_by (λ text. text) separator texts
 
 -- what a part is
 abbrev pub part_text : Part → List ℕ
-part_text (Text text) = text.now
-part_text (Name octets) = flat_map octet_text octets.now
-part_text (TopicName topic) = topic_text topic.now
-part_text (TypeName kind) = type_text kind.now
-part_text (Grouped number) = grouped number
-part_text (Share some whole) = share some whole
-part_text (Amount number words) = amount number (words_value words)
-part_text (Spaces count) = replicate count 32
+part_text (Part.Text text) = text.now
+part_text (Part.Name octets) = flat_map names.octet_text octets.now
+part_text (Part.TopicName topic) = ros_names.topic_text topic.now
+part_text (Part.TypeName kind) = ros_names.type_text kind.now
+part_text (Part.Grouped number) = grouped number
+part_text (Part.Share some whole) = share some whole
+part_text (Part.Amount number words) = amount number (words_value words)
+part_text (Part.Spaces count) = replicate count 32

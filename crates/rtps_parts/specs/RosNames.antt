@@ -3,7 +3,7 @@
 use Rattle.std.specs.Prelude.{ℕ, ◌≡◌, ◌+◌, ◌-◌, ◌++◌, ◌==◌, ◌&&◌, Bool, nat_eq, if◌then◌else◌, List, [], ◌∷◌, codes, drop, length, Option, Some, None, take}
 use Rattle.std.specs.List.{ends_with, flat_map, starts_with}
 use Rattle.std.specs.Option.{option_map}
-use Rattle.rtps_parts.specs.Names.{octet_text}
+use Rattle.rtps_parts.specs.Names as names
 
 -- ---- topics
 
@@ -64,8 +64,8 @@ ros_type kind = ros_type_at kind (mark_place kind)
 
 -- the name of a topic, as `list` writes one between quotes
 abbrev pub topic_text : List ℕ → List ℕ
-topic_text topic = flat_map octet_text (ros_topic topic)
+topic_text topic = flat_map names.octet_text (ros_topic topic)
 
 -- that of a type
 abbrev pub type_text : List ℕ → List ℕ
-type_text kind = flat_map octet_text (ros_type kind)
+type_text kind = flat_map names.octet_text (ros_type kind)

@@ -2,7 +2,7 @@ ghost use Rattle.std.specs.Prelude.{◌∷◌, [], Some};
 ghost use Rattle.std.specs.Fmt.{WritesOnOk};
 ghost use Rattle.std.specs.List.{flat_map};
 ghost use Rattle.hex.specs.Hex.{encode_lower};
-ghost use Rattle.rtps_parts.specs.Names.{name_text, octet_text};
+ghost use Rattle.rtps_parts.specs.Names as names;
 
 use std::fmt;
 
@@ -11,7 +11,7 @@ use std::fmt;
 pub struct NameText<'a>(pub &'a [u8]);
 
 impl fmt::Display for NameText<'_> {
-    ghost output = { λ name. Some (name_text name.0.now) };
+    ghost output = { λ name. Some (names.name_text name.0.now) };
 
     fn fmt<W: fmt::Write>(&self, f: &mut fmt::Formatter<W>) -> fmt::Result {
         write!(f, "\"")?;
@@ -25,7 +25,7 @@ impl fmt::Display for NameText<'_> {
 pub struct NameOctets<'a>(pub &'a [u8]);
 
 impl fmt::Display for NameOctets<'_> {
-    ghost output = { λ name. Some (flat_map octet_text name.0.now) };
+    ghost output = { λ name. Some (flat_map names.octet_text name.0.now) };
 
     fn fmt<W: fmt::Write>(&self, f: &mut fmt::Formatter<W>) -> fmt::Result {
         write_name(self.0, f)
@@ -33,7 +33,7 @@ impl fmt::Display for NameOctets<'_> {
 }
 
 pub(crate) fn write_name<W: fmt::Write>(name: &[u8], f: &mut fmt::Formatter<W>) -> fmt::Result
-    ensures { WritesOnOk W.write_str_gives f.old result (flat_map octet_text name.now) f.new }
+    ensures { WritesOnOk W.write_str_gives f.old result (flat_map names.octet_text name.now) f.new }
 {
     for octet in name {
         write!(f, "{}", OctetText(*octet))?;
@@ -45,7 +45,7 @@ pub(crate) fn write_name<W: fmt::Write>(name: &[u8], f: &mut fmt::Formatter<W>) 
 pub(crate) struct OctetText(pub(crate) u8);
 
 impl fmt::Display for OctetText {
-    ghost output = { λ text. Some (octet_text text.0) };
+    ghost output = { λ text. Some (names.octet_text text.0) };
 
     #[tactic(auto, unfolding(crate::specs::Names::octet_text))]
     fn fmt<W: fmt::Write>(&self, f: &mut fmt::Formatter<W>) -> fmt::Result {

@@ -1,7 +1,6 @@
 ghost use Rattle.std.specs.Prelude.{◌≡◌, ◌++◌, ◌∷◌, [], OnOk, IsAscii, map, replicate};
 ghost use Rattle.std.specs.List.{flat_map};
 ghost use Rattle.std.specs.String.{string_bytes};
-ghost use Rattle.rtps_parts.specs.Parts.{comma_before, grouped, joined, part_text, with_commas, words_value};
 ghost use Rattle.rtps_parts.specs.Parts as parts_spec;
 
 use crate::name::NameOctets;
@@ -39,7 +38,7 @@ pub enum Part<'a> {
 
 /// Appends parts.
 pub fn render(text: &mut String, parts: &[Part<'_>]) -> Result<(), AllocError>
-    ensures { OnOk result (string_bytes text.new ≡ string_bytes text.old ++ flat_map part_text parts.now) }
+    ensures { OnOk result (string_bytes text.new ≡ string_bytes text.old ++ flat_map parts_spec.part_text parts.now) }
 {
     for part in parts {
         push_part(text, *part)?;
@@ -53,7 +52,7 @@ pub fn push_rendered(
     texts: &mut Vec<String>,
     parts: &[Part<'_>],
 ) -> Result<(), AllocError>
-    ensures { OnOk result (map string_bytes texts.new.items ≡ map string_bytes texts.old.items ++ flat_map part_text parts.now ∷ []) }
+    ensures { OnOk result (map string_bytes texts.new.items ≡ map string_bytes texts.old.items ++ flat_map parts_spec.part_text parts.now ∷ []) }
 {
     let mut text = String::new(alloc);
     render(&mut text, parts)?;
@@ -63,7 +62,7 @@ pub fn push_rendered(
 
 /// Appends texts with a separator between each two.
 pub fn push_joined(text: &mut String, separator: &str, texts: &[String]) -> Result<(), AllocError>
-    ensures { OnOk result (string_bytes text.new ≡ string_bytes text.old ++ joined separator.now (map string_bytes texts.now)) }
+    ensures { OnOk result (string_bytes text.new ≡ string_bytes text.old ++ parts_spec.joined separator.now (map string_bytes texts.now)) }
 {
     let Some((first, others)) = texts.split_first() else {
         return Ok(());
@@ -77,7 +76,7 @@ pub fn push_joined(text: &mut String, separator: &str, texts: &[String]) -> Resu
 }
 
 pub(crate) fn push_part(text: &mut String, part: Part<'_>) -> Result<(), AllocError>
-    ensures { OnOk result (string_bytes text.new ≡ string_bytes text.old ++ part_text part.entry) }
+    ensures { OnOk result (string_bytes text.new ≡ string_bytes text.old ++ parts_spec.part_text part.entry) }
 {
     match part {
         Part::Text(words) => text.push_str(words),
@@ -101,7 +100,7 @@ pub(crate) fn push_part(text: &mut String, part: Part<'_>) -> Result<(), AllocEr
 
 /// The words for so many.
 pub fn words_for(number: u128, words: Words) -> &'static str
-    ensures { result.now ≡ parts_spec.words_for number (words_value words) }
+    ensures { result.now ≡ parts_spec.words_for number (parts_spec.words_value words) }
 {
     if number == 1 { words.one } else { words.many }
 }
@@ -117,14 +116,14 @@ fn push_spaces(text: &mut String, count: usize) -> Result<(), AllocError>
 }
 
 fn push_grouped(text: &mut String, number: u128) -> Result<(), AllocError>
-    ensures { OnOk result (string_bytes text.new ≡ string_bytes text.old ++ grouped number) }
+    ensures { OnOk result (string_bytes text.new ≡ string_bytes text.old ++ parts_spec.grouped number) }
 {
     push_with_commas(text, Buffer::new().format(number).as_bytes())
 }
 
 fn push_with_commas(text: &mut String, digits: &[u8]) -> Result<(), AllocError>
     requires { IsAscii digits.now }
-    ensures { OnOk result (string_bytes text.new ≡ string_bytes text.old ++ with_commas digits.now) }
+    ensures { OnOk result (string_bytes text.new ≡ string_bytes text.old ++ parts_spec.with_commas digits.now) }
 {
     let mut rest = digits;
     'digits: while let Some((digit, more)) = rest.split_first() {
@@ -136,7 +135,7 @@ fn push_with_commas(text: &mut String, digits: &[u8]) -> Result<(), AllocError>
 }
 
 fn push_comma(text: &mut String, digits: usize) -> Result<(), AllocError>
-    ensures { OnOk result (string_bytes text.new ≡ string_bytes text.old ++ comma_before digits) }
+    ensures { OnOk result (string_bytes text.new ≡ string_bytes text.old ++ parts_spec.comma_before digits) }
 {
     if digits > 0 && digits % 3 == 0 {
         text.push_str(",")

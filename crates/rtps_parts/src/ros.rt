@@ -1,8 +1,7 @@
 ghost use Rattle.std.specs.Prelude.{◌≡◌, ◌+◌, ◌<◌, ◌≤◌, ◌++◌, ◌∷◌, [], codes, length, true, IfSome, MatchOption, Some, None};
 ghost use Rattle.std.specs.Fmt.{WritesOnOk};
 ghost use Rattle.std.specs.List.{flat_map};
-ghost use Rattle.rtps_parts.specs.Names.{octet_text};
-ghost use Rattle.rtps_parts.specs.RosNames.{mark, slashed, topic_text, type_text};
+ghost use Rattle.rtps_parts.specs.Names as names;
 ghost use Rattle.rtps_parts.specs.RosNames as ros_names;
 
 use crate::name::{NameOctets, OctetText, write_name};
@@ -59,7 +58,7 @@ pub fn ros_topic(topic: &[u8]) -> RosTopic<'_>
 pub(crate) struct TopicText<'a>(pub(crate) &'a [u8]);
 
 impl fmt::Display for TopicText<'_> {
-    ghost output = { λ topic. Some (topic_text topic.0.now) };
+    ghost output = { λ topic. Some (ros_names.topic_text topic.0.now) };
 
     fn fmt<W: fmt::Write>(&self, f: &mut fmt::Formatter<W>) -> fmt::Result {
         let topic = ros_topic(self.0);
@@ -71,7 +70,7 @@ impl fmt::Display for TopicText<'_> {
 /// How many octets of a type stand before the first mark.
 fn mark_place(kind: &[u8]) -> Option<usize>
     ensures place { result ≡ ros_names.mark_place kind.now }
-    ensures within { MatchOption result (ros_names.mark_place kind.now ≡ None) (λ place. place + length mark ≤ length kind.now) }
+    ensures within { MatchOption result (ros_names.mark_place kind.now ≡ None) (λ place. place + length ros_names.mark ≤ length kind.now) }
 {
     for place in 0..kind.len() {
         if kind[place..].starts_with(MARK) {
@@ -83,7 +82,7 @@ fn mark_place(kind: &[u8]) -> Option<usize>
 
 /// The first octet of a scope as it is written, two colons as a slash, and what is behind it.
 fn first_slashed(scope: &[u8]) -> Option<(u8, &[u8])>
-    ensures slashed { MatchOption result (scope.now ≡ []) (λ first. slashed scope.now ≡ first.0 ∷ slashed first.1.now) }
+    ensures slashed { MatchOption result (scope.now ≡ []) (λ first. ros_names.slashed scope.now ≡ first.0 ∷ ros_names.slashed first.1.now) }
     ensures behind { IfSome result (λ first. length first.1.now < length scope.now) }
 {
     match scope {
@@ -95,7 +94,7 @@ fn first_slashed(scope: &[u8]) -> Option<(u8, &[u8])>
 
 /// Writes a scope, each two colons of it as a slash.
 fn write_scope<W: fmt::Write>(scope: &[u8], f: &mut fmt::Formatter<W>) -> fmt::Result
-    ensures { WritesOnOk W.write_str_gives f.old result (flat_map octet_text (slashed scope.now)) f.new }
+    ensures { WritesOnOk W.write_str_gives f.old result (flat_map names.octet_text (ros_names.slashed scope.now)) f.new }
 {
     let mut rest = scope;
     'octets: while let Some((octet, behind)) = first_slashed(rest) {
@@ -114,7 +113,7 @@ struct RosType<'a> {
 
 /// Those of a type with a mark, where what is behind it ends with an underscore. None of any other.
 fn ros_type(kind: &[u8]) -> Option<RosType<'_>>
-    ensures { MatchOption result (ros_names.ros_type kind.now ≡ kind.now) (λ parts. ros_names.ros_type kind.now ≡ slashed parts.scope.now ++ (codes "/" ++ parts.name.now)) }
+    ensures { MatchOption result (ros_names.ros_type kind.now ≡ kind.now) (λ parts. ros_names.ros_type kind.now ≡ ros_names.slashed parts.scope.now ++ (codes "/" ++ parts.name.now)) }
 {
     let place = mark_place(kind)?;
     let behind = &kind[place + MARK.len()..];
@@ -132,7 +131,7 @@ fn ros_type(kind: &[u8]) -> Option<RosType<'_>>
 pub struct TypeText<'a>(pub &'a [u8]);
 
 impl fmt::Display for TypeText<'_> {
-    ghost output = { λ kind. Some (type_text kind.0.now) };
+    ghost output = { λ kind. Some (ros_names.type_text kind.0.now) };
 
     fn fmt<W: fmt::Write>(&self, f: &mut fmt::Formatter<W>) -> fmt::Result {
         match ros_type(self.0) {

@@ -1,7 +1,6 @@
 ghost use Rattle.std.specs.Prelude.{◌≡◌, ◌++◌, IfOk, OnOk, length, map};
 ghost use Rattle.std.specs.String.{string_bytes};
-ghost use Rattle.rtps_parts.specs.Parts.{part_text};
-ghost use Rattle.rtps_parts.specs.Table.{cell, entry, line, table, width};
+ghost use Rattle.rtps_parts.specs.Parts as parts;
 ghost use Rattle.rtps_parts.specs.Table as table_spec;
 
 use crate::part::{Part, push_part, render};
@@ -15,7 +14,7 @@ pub(crate) struct Column {
 }
 
 fn push_entry(text: &mut String, row: &[Part<'_>], place: usize) -> Result<(), AllocError>
-    ensures { OnOk result (string_bytes text.new ≡ string_bytes text.old ++ entry (map part_text row.now) place) }
+    ensures { OnOk result (string_bytes text.new ≡ string_bytes text.old ++ table_spec.entry (map parts.part_text row.now) place) }
 {
     match row.get(place) {
         Some(part) => push_part(text, *part),
@@ -24,7 +23,7 @@ fn push_entry(text: &mut String, row: &[Part<'_>], place: usize) -> Result<(), A
 }
 
 fn entry_len(alloc: Global, row: &[Part<'_>], place: usize) -> Result<usize, AllocError>
-    ensures { IfOk result (λ size. size ≡ length (entry (map part_text row.now) place)) }
+    ensures { IfOk result (λ size. size ≡ length (table_spec.entry (map parts.part_text row.now) place)) }
 {
     let mut text = String::new(alloc);
     push_entry(&mut text, row, place)?;
@@ -32,7 +31,7 @@ fn entry_len(alloc: Global, row: &[Part<'_>], place: usize) -> Result<usize, All
 }
 
 fn column_of(alloc: Global, rows: &[Vec<Part<'_>>], place: usize) -> Result<Column, AllocError>
-    ensures { IfOk result (λ column. column ≡ table_spec.column_of (map (λ row. map part_text row.items) rows.now) place) }
+    ensures { IfOk result (λ column. column ≡ table_spec.column_of (map (λ row. map parts.part_text row.items) rows.now) place) }
 {
     let mut width = 0;
     for row in rows {
@@ -47,7 +46,7 @@ fn push_cell(
     row: &[Part<'_>],
     column: Column,
 ) -> Result<(), AllocError>
-    ensures { OnOk result (string_bytes text.new ≡ string_bytes text.old ++ cell (map part_text row.now) column) }
+    ensures { OnOk result (string_bytes text.new ≡ string_bytes text.old ++ table_spec.cell (map parts.part_text row.now) column) }
 {
     let size = entry_len(alloc, row, column.place)?;
     let rest = Part::Spaces(column.width.saturating_sub(size));
@@ -66,7 +65,7 @@ fn push_line(
     row: &[Part<'_>],
     columns: &[Column],
 ) -> Result<(), AllocError>
-    ensures { OnOk result (string_bytes text.new ≡ string_bytes text.old ++ line columns.now (map part_text row.now)) }
+    ensures { OnOk result (string_bytes text.new ≡ string_bytes text.old ++ table_spec.line columns.now (map parts.part_text row.now)) }
 {
     for column in columns {
         push_cell(alloc, text, row, *column)?;
@@ -79,7 +78,7 @@ fn columns_of(
     rows: &[Vec<Part<'_>>],
     places: &[usize],
 ) -> Result<Vec<Column>, AllocError>
-    ensures { IfOk result (λ columns. columns.items ≡ map (table_spec.column_of (map (λ row. map part_text row.items) rows.now)) places.now) }
+    ensures { IfOk result (λ columns. columns.items ≡ map (table_spec.column_of (map (λ row. map parts.part_text row.items) rows.now)) places.now) }
 {
     let mut columns = Vec::new(alloc);
     for place in places {
@@ -95,7 +94,7 @@ pub fn push_table(
     places: &[usize],
     rows: &[Vec<Part<'_>>],
 ) -> Result<(), AllocError>
-    ensures { OnOk result (string_bytes text.new ≡ string_bytes text.old ++ table places.now (map (λ row. map part_text row.items) rows.now)) }
+    ensures { OnOk result (string_bytes text.new ≡ string_bytes text.old ++ table_spec.table places.now (map (λ row. map parts.part_text row.items) rows.now)) }
 {
     let columns = columns_of(alloc, rows, places)?;
     for row in rows {

@@ -10,7 +10,7 @@ use Rattle.std.proofs.lemmas.Cmp.{nat_list_cmp_total}
 use Rattle.std.proofs.lemmas.List.{get_or-drop, get_or-take, length-drop, take-append-drop, length-take}
 use Rattle.std.proofs.lemmas.List.Elements.{All-head, All-tail, All-take, All-weaker, filter-append}
 use Rattle.std.proofs.lemmas.List.Sorted.{IsNonDecreasingBy-drop, IsPartitionedBy-ltb, searchable_from_sorted}
-use Rattle.rtps_policies.specs.TopicReaders.{AreByTopic, has_topic}
+use Rattle.rtps_policies.specs.TopicReaders as topic_readers
 use Rattle.rtps_policies.specs.declared.fitting.Profile.{Profile}
 
 pub filter_none : {X : Type 0} (test : X → Bool) (xs : List X) → All (λ x. test x ≡ false) xs → filter test xs ≡ []
@@ -58,13 +58,13 @@ le_rank Less = refl
 le_rank Equal = refl
 le_rank Greater = refl
 
-ranked : (topic : List ℕ) (readers : List Profile) → AreByTopic readers → IsNonDecreasingBy (λ reader. ordering_index (topic_cmp topic reader)) readers
+ranked : (topic : List ℕ) (readers : List Profile) → topic_readers.AreByTopic readers → IsNonDecreasingBy (λ reader. ordering_index (topic_cmp topic reader)) readers
 ranked topic readers h = searchable_from_sorted nat_list_cmp_total (λ (reader : Profile). reader.endpoint.topic.now) readers topic h
 
-pub below_partitions : (topic : List ℕ) (readers : List Profile) → AreByTopic readers → IsPartitionedBy (below topic) readers
+pub below_partitions : (topic : List ℕ) (readers : List Profile) → topic_readers.AreByTopic readers → IsPartitionedBy (below topic) readers
 below_partitions topic readers h = by_rank _ _ 1 readers (λ reader. lt_rank (topic_cmp topic reader)) (ranked topic readers h)
 
-pub upto_partitions : (topic : List ℕ) (readers : List Profile) (start : ℕ) → AreByTopic readers → IsPartitionedBy (up_to topic) (drop start readers)
+pub upto_partitions : (topic : List ℕ) (readers : List Profile) (start : ℕ) → topic_readers.AreByTopic readers → IsPartitionedBy (up_to topic) (drop start readers)
 upto_partitions topic readers start h =
     by_rank _ _ 2 (drop start readers) (λ reader. le_rank (topic_cmp topic reader)) (IsNonDecreasingBy-drop (λ reader. ordering_index (topic_cmp topic reader)) start readers (ranked topic readers h))
 
@@ -90,13 +90,13 @@ All-both P Q R xs f p q = λ k d lt. f _ (p k d lt) (q k d lt)
 pub one_topic : (topic : List ℕ) (readers : List Profile) (start size : ℕ) → start ≤ length readers → size ≤ length (drop start readers)
     → IsPartitionPoint (λ reader. below topic reader ≡ true) (λ reader. below topic reader ≡ false) readers start
     → IsPartitionPoint (λ reader. up_to topic reader ≡ true) (λ reader. up_to topic reader ≡ false) (drop start readers) size
-    → take size (drop start readers) ≡ filter (has_topic topic) readers
+    → take size (drop start readers) ≡ filter (topic_readers.has_topic topic) readers
 one_topic topic readers start size within room first last =
     let behind = drop start readers in
-    let front = All-weaker _ (λ reader. has_topic topic reader ≡ false) (λ reader. lt_is_no_eq (topic_cmp topic reader)) (take start readers) (All-front (λ reader. below topic reader ≡ true) readers start within first.0) in
+    let front = All-weaker _ (λ reader. topic_readers.has_topic topic reader ≡ false) (λ reader. lt_is_no_eq (topic_cmp topic reader)) (take start readers) (All-front (λ reader. below topic reader ≡ true) readers start within first.0) in
     let upto = All-front (λ reader. up_to topic reader ≡ true) behind size room last.0 in
     let not_below = All-take (λ reader. below topic reader ≡ false) size behind (All-rest (λ reader. below topic reader ≡ false) readers start first.1) in
-    let middle = All-both _ _ (λ reader. has_topic topic reader ≡ true) (take size behind) (λ reader. le_no_lt_is_eq (topic_cmp topic reader)) upto not_below in
-    let back = All-weaker _ (λ reader. has_topic topic reader ≡ false) (λ reader. no_le_is_no_eq (topic_cmp topic reader)) (drop size behind) (All-rest (λ reader. up_to topic reader ≡ false) behind size last.1) in
+    let middle = All-both _ _ (λ reader. topic_readers.has_topic topic reader ≡ true) (take size behind) (λ reader. le_no_lt_is_eq (topic_cmp topic reader)) upto not_below in
+    let back = All-weaker _ (λ reader. topic_readers.has_topic topic reader ≡ false) (λ reader. no_le_is_no_eq (topic_cmp topic reader)) (drop size behind) (All-rest (λ reader. up_to topic reader ≡ false) behind size last.1) in
     let whole : take start readers ++ (take size behind ++ drop size behind) ≡ readers = rw (take-append-drop size behind) (take-append-drop start readers) in
-    sym (ap (filter (has_topic topic)) (sym whole) ∙ filter_middle (has_topic topic) (take start readers) (take size behind) (drop size behind) front middle back ∙ append-nil _)
+    sym (ap (filter (topic_readers.has_topic topic)) (sym whole) ∙ filter_middle (topic_readers.has_topic topic) (take start readers) (take size behind) (drop size behind) front middle back ∙ append-nil _)

@@ -4,7 +4,6 @@ use Rattle.std.specs.Prelude.{ℕ, ◌+◌, ◌*◌, ◌++◌, false, List, [], 
 use Rattle.std.specs.Fmt.{radix_digits}
 use Rattle.std.specs.List.{concat}
 use Rattle.rtps_policies.specs.declared.host.Address.{Address}
-use Rattle.rtps_policies.specs.declared.host.Address.TheVariants.{V4, V6}
 
 -- the numbers that pairs of octets spell
 abbrev pub groups_of : List ℕ → List ℕ
@@ -24,7 +23,7 @@ groups_text (group ∷ next ∷ groups) = group_text group ++ (codes ":" ++ grou
 
 -- four numbers with points between, or eight groups
 unfoldable pub address_text : Address → List ℕ
-address_text (V4 octets) =
+address_text (Address.V4 octets) =
     concat (decimal (slice_index octets 0) ∷ codes "." ∷ decimal (slice_index octets 1) ∷ codes "." ∷ decimal (slice_index octets 2) ∷ codes "."
     ∷ decimal (slice_index octets 3) ∷ [])
-address_text (V6 octets) = groups_text (groups_of octets)
+address_text (Address.V6 octets) = groups_text (groups_of octets)

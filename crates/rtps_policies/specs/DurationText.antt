@@ -3,7 +3,7 @@
 use Rattle.std.specs.Prelude.{ℕ, ℤ, pos, negsuc, suc, zero, ◌/◌, ◌%◌, ◌^◌, ◌==◌, ◌&&◌, ◌++◌, Bool, if◌then◌else◌, List, [], ◌∷◌, codes, decimal}
 use Rattle.std.specs.List.{concat}
 use Rattle.std.specs.Ordering.{int_eq}
-use Rattle.rtps_policies.specs.Durations.{nanoseconds_of}
+use Rattle.rtps_policies.specs.Durations as durations
 use Rattle.rtps_policies.specs.declared.duration.Duration.{Duration}
 
 -- the digits of so many places of a number, up to the last one that is not 0
@@ -26,4 +26,4 @@ is_infinite duration = int_eq duration.seconds (pos 0x7fffffff) && (duration.fra
 
 -- a duration in seconds; one word for an infinite one, and one for all below 0
 unfoldable pub duration_text : Duration → List ℕ
-duration_text duration = if is_infinite duration then codes "infinite" else seconds_text duration.seconds (nanoseconds_of duration.fraction)
+duration_text duration = if is_infinite duration then codes "infinite" else seconds_text duration.seconds (durations.nanoseconds_of duration.fraction)

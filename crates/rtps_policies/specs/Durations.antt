@@ -4,15 +4,15 @@ use Rattle.std.specs.Int.{cast_signed, w32}
 use Rattle.std.specs.Int.Signed.{lt_z}
 use Rattle.std.specs.Option.{option_map}
 use Rattle.std.specs.Ordering.{int_eq}
-use Rattle.rtps_ids.specs.Octets.{number_of, read_at}
+use Rattle.rtps_ids.specs.Octets as octets
 use Rattle.rtps_ids.specs.declared.order.Order.{Order}
 use Rattle.rtps_policies.specs.declared.duration.Duration.{Duration}
 
 -- the duration in the eight octets at an offset: signed seconds, and then the fraction
 abbrev pub duration_at : Order → List ℕ → ℕ → Option Duration
 duration_at order value at =
-    option_and_then (λ seconds. option_map (λ fraction. record { seconds = cast_signed w32 seconds; fraction = fraction }) (read_at (number_of order 4) 4 value (at + 4)))
-    (read_at (number_of order 4) 4 value at)
+    option_and_then (λ seconds. option_map (λ fraction. record { seconds = cast_signed w32 seconds; fraction = fraction }) (octets.read_at (octets.number_of order 4) 4 value (at + 4)))
+    (octets.read_at (octets.number_of order 4) 4 value at)
 
 -- one duration is no longer than another: by seconds, and then by the fraction
 abbrev pub IsWithin : Duration → Duration → Type 0

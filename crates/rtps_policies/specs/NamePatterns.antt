@@ -5,7 +5,7 @@ use Rattle.std.specs.Prelude.{ℕ, zero, suc, ◌≡◌, ◌≤◌, ◌+◌, ◌
 use Rattle.std.specs.Cmp.Lexicographic.{pointwise}
 use Rattle.std.specs.List.{list_any}
 use Rattle.std.specs.Option.{option_map}
-use Rattle.rtps_policies.specs.declared.layout.pattern.TheConstants.{CARET, CLOSING, HYPHEN, MARK, OPENING, QUESTION, STAR}
+use Rattle.rtps_policies.specs.declared.layout.pattern.TheConstants as pattern
 
 -- what one octet of a pattern stands for, or several
 pub data PartValue : Type 0 where
@@ -23,7 +23,7 @@ pub record SetValue : Type 0 where
 -- the set begins with a mark, and is of the octets outside
 abbrev pub is_marked : List ℕ → Bool
 is_marked [] = false
-is_marked (octet ∷ behind) = octet == MARK || octet == CARET
+is_marked (octet ∷ behind) = octet == pattern.MARK || octet == pattern.CARET
 
 -- what is behind the mark, where there is one
 abbrev pub without_mark : List ℕ → List ℕ
@@ -31,7 +31,7 @@ without_mark behind = if is_marked behind then drop 1 behind else behind
 
 -- where the first closing bracket is that is no member: one that comes first is a member
 abbrev pub closing_in : List ℕ → Option ℕ
-closing_in body = option_map (λ place. place + 1) (position (λ octet. octet == CLOSING) (drop 1 body))
+closing_in body = option_map (λ place. place + 1) (position (λ octet. octet == pattern.CLOSING) (drop 1 body))
 
 -- the set whose opening bracket is before these octets; None where no bracket closes it
 abbrev pub set_in : List ℕ → Option SetValue
@@ -44,7 +44,7 @@ set_in behind =
 
 -- the part that an opening bracket begins: a set, or the bracket itself where nothing closes it
 abbrev pub part_of_set : Option SetValue → PartValue
-part_of_set None = Octet OPENING
+part_of_set None = Octet pattern.OPENING
 part_of_set (Some set) = Among set.outside set.members
 
 -- how many octets belong to a part behind its first one
@@ -55,11 +55,11 @@ size_of_set (Some set) = set.size
 -- the part that begins with an octet, before others
 abbrev pub part_at : ℕ → List ℕ → PartValue
 part_at octet behind =
-    if octet == STAR then Many else if octet == QUESTION then One else if octet == OPENING then part_of_set (set_in behind) else Octet octet
+    if octet == pattern.STAR then Many else if octet == pattern.QUESTION then One else if octet == pattern.OPENING then part_of_set (set_in behind) else Octet octet
 
 -- how many octets behind the first one belong to it
 abbrev pub size_at : ℕ → List ℕ → ℕ
-size_at octet behind = if octet == OPENING then size_of_set (set_in behind) else 0
+size_at octet behind = if octet == pattern.OPENING then size_of_set (set_in behind) else 0
 
 -- the parts of a pattern, behind so many octets
 abbrev pub parts_behind : ℕ → List ℕ → List PartValue
@@ -77,7 +77,7 @@ ranges_of [] = []
 ranges_of (one ∷ []) = (one, one) ∷ []
 ranges_of (one ∷ other ∷ []) = (one, one) ∷ (other, other) ∷ []
 ranges_of (one ∷ between ∷ other ∷ members) =
-    if between == HYPHEN then (one, other) ∷ ranges_of members else (one, one) ∷ ranges_of (between ∷ other ∷ members)
+    if between == pattern.HYPHEN then (one, other) ∷ ranges_of members else (one, one) ∷ ranges_of (between ∷ other ∷ members)
 
 -- ---- what fits, as a relation
 

@@ -2,21 +2,19 @@
 -- announced), DDSI-RTPS 2.5, 9.6.3, and XTypes 1.3, 7.6.3.1.1 (their parameters). own: a parameter that cannot be read is as if
 -- absent.
 use Rattle.std.specs.Prelude.{ℕ, pos, false, List, [], ◌∷◌, Option, option_and_then, unwrap_or}
-use Rattle.rtps_discovery.specs.Announcement.{Fields, field}
-use Rattle.rtps_policies.specs.Durations.{duration_at}
-use Rattle.rtps_policies.specs.Kinds.{destination_order_of, liveliness_of, ownership_of, presentation_of}
-use Rattle.rtps_policies.specs.Sequences.{partition_of, representations_of}
-use Rattle.rtps_policies.specs.Views.{partition_value, representations_value}
+use Rattle.rtps_discovery.specs.Announcement as announcement
+use Rattle.rtps_policies.specs.Durations as durations
+use Rattle.rtps_policies.specs.Kinds as kinds
+use Rattle.rtps_policies.specs.Sequences as sequences
+use Rattle.rtps_policies.specs.Views as views
 use Rattle.rtps_policies.specs.declared.duration.Duration.{Duration}
 use Rattle.rtps_policies.specs.declared.kinds.DestinationOrder.{DestinationOrder}
-use Rattle.rtps_policies.specs.declared.kinds.DestinationOrder.TheVariants.{ByReception}
 use Rattle.rtps_policies.specs.declared.kinds.Ownership.{Ownership}
-use Rattle.rtps_policies.specs.declared.kinds.Ownership.TheVariants.{Shared}
-use Rattle.rtps_policies.specs.declared.layout.pid.TheConstants.{DATA_REPRESENTATION, DEADLINE, DESTINATION_ORDER, LATENCY_BUDGET, LIVELINESS, OWNERSHIP, PARTITION, PRESENTATION}
+use Rattle.rtps_policies.specs.declared.layout.pid.TheConstants as pid
 use Rattle.rtps_policies.specs.declared.liveliness.Liveliness.{Liveliness}
-use Rattle.rtps_policies.specs.declared.liveliness.LivelinessKind.TheVariants.{Automatic}
+use Rattle.rtps_policies.specs.declared.liveliness.LivelinessKind.{LivelinessKind}
 use Rattle.rtps_policies.specs.declared.policies.Policies.{Policies}
-use Rattle.rtps_policies.specs.declared.presentation.AccessScope.TheVariants.{Instance}
+use Rattle.rtps_policies.specs.declared.presentation.AccessScope.{AccessScope}
 use Rattle.rtps_policies.specs.declared.presentation.Presentation.{Presentation}
 
 -- the policies of an endpoint
@@ -40,8 +38,8 @@ policies_value policies =
       ownership = policies.ownership;
       destination_order = policies.destination_order;
       presentation = policies.presentation;
-      partition = partition_value policies.partition;
-      representations = representations_value policies.representations;
+      partition = views.partition_value policies.partition;
+      representations = views.representations_value policies.representations;
     }
 
 -- DURATION_INFINITE (DDSI-RTPS 2.5, 9.3.2)
@@ -59,10 +57,10 @@ unannounced =
     record {
       deadline = infinite;
       latency_budget = no_time;
-      liveliness = record { kind = Automatic; lease = infinite };
-      ownership = Shared;
-      destination_order = ByReception;
-      presentation = record { scope = Instance; coherent = false; ordered = false };
+      liveliness = record { kind = LivelinessKind.Automatic; lease = infinite };
+      ownership = Ownership.Shared;
+      destination_order = DestinationOrder.ByReception;
+      presentation = record { scope = AccessScope.Instance; coherent = false; ordered = false };
       partition = [] ∷ [];
       representations = [];
     }
@@ -72,39 +70,39 @@ abbrev pub said_or : {X : Type 0} → X → (List ℕ → Option X) → Option (
 said_or default read value = unwrap_or (option_and_then read value) default
 
 -- what parameters announce of the deadline
-abbrev pub deadline_in : Fields → Duration
-deadline_in fields = said_or unannounced.deadline (λ value. duration_at fields.order value 0) (field DEADLINE fields)
+abbrev pub deadline_in : announcement.Fields → Duration
+deadline_in fields = said_or unannounced.deadline (λ value. durations.duration_at fields.order value 0) (announcement.field pid.DEADLINE fields)
 
 -- what they announce of the latency budget
-abbrev pub latency_budget_in : Fields → Duration
-latency_budget_in fields = said_or unannounced.latency_budget (λ value. duration_at fields.order value 0) (field LATENCY_BUDGET fields)
+abbrev pub latency_budget_in : announcement.Fields → Duration
+latency_budget_in fields = said_or unannounced.latency_budget (λ value. durations.duration_at fields.order value 0) (announcement.field pid.LATENCY_BUDGET fields)
 
 -- what they announce of liveliness
-abbrev pub liveliness_in : Fields → Liveliness
-liveliness_in fields = said_or unannounced.liveliness (liveliness_of fields.order) (field LIVELINESS fields)
+abbrev pub liveliness_in : announcement.Fields → Liveliness
+liveliness_in fields = said_or unannounced.liveliness (kinds.liveliness_of fields.order) (announcement.field pid.LIVELINESS fields)
 
 -- what they announce of ownership
-abbrev pub ownership_in : Fields → Ownership
-ownership_in fields = said_or unannounced.ownership (ownership_of fields.order) (field OWNERSHIP fields)
+abbrev pub ownership_in : announcement.Fields → Ownership
+ownership_in fields = said_or unannounced.ownership (kinds.ownership_of fields.order) (announcement.field pid.OWNERSHIP fields)
 
 -- what they announce of the destination order
-abbrev pub destination_order_in : Fields → DestinationOrder
-destination_order_in fields = said_or unannounced.destination_order (destination_order_of fields.order) (field DESTINATION_ORDER fields)
+abbrev pub destination_order_in : announcement.Fields → DestinationOrder
+destination_order_in fields = said_or unannounced.destination_order (kinds.destination_order_of fields.order) (announcement.field pid.DESTINATION_ORDER fields)
 
 -- what they announce of presentation
-abbrev pub presentation_in : Fields → Presentation
-presentation_in fields = said_or unannounced.presentation (presentation_of fields.order) (field PRESENTATION fields)
+abbrev pub presentation_in : announcement.Fields → Presentation
+presentation_in fields = said_or unannounced.presentation (kinds.presentation_of fields.order) (announcement.field pid.PRESENTATION fields)
 
 -- the names of partitions that they announce
-abbrev pub partition_in : Fields → List (List ℕ)
-partition_in fields = said_or unannounced.partition (partition_of fields.order) (field PARTITION fields)
+abbrev pub partition_in : announcement.Fields → List (List ℕ)
+partition_in fields = said_or unannounced.partition (sequences.partition_of fields.order) (announcement.field pid.PARTITION fields)
 
 -- the ids of representations that they announce
-abbrev pub representations_in : Fields → List ℕ
-representations_in fields = said_or unannounced.representations (representations_of fields.order) (field DATA_REPRESENTATION fields)
+abbrev pub representations_in : announcement.Fields → List ℕ
+representations_in fields = said_or unannounced.representations (sequences.representations_of fields.order) (announcement.field pid.DATA_REPRESENTATION fields)
 
 -- the policies that parameters announce
-abbrev pub policies_in : Fields → PoliciesValue
+abbrev pub policies_in : announcement.Fields → PoliciesValue
 policies_in fields =
     record {
       deadline = deadline_in fields;

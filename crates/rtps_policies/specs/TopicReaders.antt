@@ -3,12 +3,12 @@ use Rattle.std.specs.Prelude.{ℕ, ◌≡◌, Bool, List, filter}
 use Rattle.std.specs.Cmp.Lexicographic.{slice_cmp}
 use Rattle.std.specs.List.Sorted.{IsSortedByKey}
 use Rattle.std.specs.Ordering.{is_eq, nat_cmp}
-use Rattle.rtps_discovery.specs.Matching.{is_reader}
+use Rattle.rtps_discovery.specs.Matching as matching
 use Rattle.rtps_policies.specs.declared.fitting.Profile.{Profile}
 
 -- the readers among profiles
 abbrev pub readers_among : List Profile → List Profile
-readers_among profiles = filter (λ profile. is_reader profile.endpoint.side) profiles
+readers_among profiles = filter (λ profile. matching.is_reader profile.endpoint.side) profiles
 
 -- readers that are sorted by topic, octet by octet
 abbrev pub AreByTopic : List Profile → Type 0

@@ -3,14 +3,14 @@
 use Rattle.std.specs.Prelude.{ℕ, ◌&&◌, Bool, false, List, length, nat_eq, nat_le, take, unwrap_or}
 use Rattle.std.specs.Cmp.Lexicographic.{pointwise}
 use Rattle.std.specs.Option.{option_map}
-use Rattle.rtps_discovery.specs.Announcement.{Fields, field}
-use Rattle.rtps_policies.specs.declared.layout.pid.TheConstants.{VENDOR_ID}
-use Rattle.rtps_policies.specs.declared.layout.vendor.TheConstants.{FAST_DDS}
+use Rattle.rtps_discovery.specs.Announcement as announcement
+use Rattle.rtps_policies.specs.declared.layout.pid.TheConstants as pid
+use Rattle.rtps_policies.specs.declared.layout.vendor.TheConstants as vendor
 
 -- octets begin with the id of Fast DDS
 abbrev pub is_fast : List ℕ → Bool
-is_fast value = nat_le 2 (length value) && pointwise nat_eq (take 2 value) FAST_DDS
+is_fast value = nat_le 2 (length value) && pointwise nat_eq (take 2 value) vendor.FAST_DDS
 
 -- the parameters of a participant say that it is of Fast DDS
-abbrev pub is_of_fast : Fields → Bool
-is_of_fast fields = unwrap_or (option_map is_fast (field VENDOR_ID fields)) false
+abbrev pub is_of_fast : announcement.Fields → Bool
+is_of_fast fields = unwrap_or (option_map is_fast (announcement.field pid.VENDOR_ID fields)) false

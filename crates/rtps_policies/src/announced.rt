@@ -1,13 +1,12 @@
 ghost use Rattle.std.specs.Prelude.{◌≡◌, ◌++◌, ◌∷◌, [], IfOk, List, OnErr, OnOk, map, unwrap_or};
 ghost use Rattle.std.specs.Option.{option_map};
-ghost use Rattle.rtps_receiver.specs.Values.{ActValue, spoken_value};
-ghost use Rattle.rtps_discovery.specs.Endpoint.{endpoint_value};
-ghost use Rattle.rtps_discovery.specs.Notice.{announcement_of, participant_in};
-ghost use Rattle.rtps_policies.specs.Announcing.{IsAnnouncedBy, host_among, host_told, hosts_in, kept_host, policies_among, policies_told, profile_among, unknown_host};
+ghost use Rattle.rtps_receiver.specs.Values as values;
+ghost use Rattle.rtps_discovery.specs.Endpoint as endpoint_spec;
+ghost use Rattle.rtps_discovery.specs.Notice as notice;
 ghost use Rattle.rtps_policies.specs.Announcing as announcing;
-ghost use Rattle.rtps_policies.specs.Fitting.{profile_value};
-ghost use Rattle.rtps_policies.specs.Policies.{policies_value, unannounced};
-ghost use Rattle.rtps_policies.specs.Told.{KeepsFirst};
+ghost use Rattle.rtps_policies.specs.Fitting as fitting;
+ghost use Rattle.rtps_policies.specs.Policies as policies_spec;
+ghost use Rattle.rtps_policies.specs.Told as told;
 
 use crate::fields::list_in;
 use crate::fitting::Profile;
@@ -33,7 +32,7 @@ pub struct Announced<'a> {
 impl<'a> Announced<'a> {
     /// That of no acts. It takes no memory.
     pub fn new(alloc: Global) -> Announced<'a>
-        ensures { IsAnnouncedBy [] result }
+        ensures { announcing.IsAnnouncedBy [] result }
     {
         Announced {
             policies: BTreeMap::new(alloc),
@@ -45,8 +44,8 @@ impl<'a> Announced<'a> {
     /// Keeps what an act announces, unless its GUID was announced before. An act that announces nothing, or has a fault, changes
     /// nothing. After `Memory` nothing has changed.
     pub fn note(&mut self, act: &Spoken<'a>) -> Result<(), Memory>
-        ensures ok { OnOk result ((acts : List ActValue) → IsAnnouncedBy acts self.old → IsAnnouncedBy (acts ++ spoken_value act.now ∷ []) self.new) }
-        ensures err { OnErr result ((acts : List ActValue) → IsAnnouncedBy acts self.old → IsAnnouncedBy acts self.new) }
+        ensures ok { OnOk result ((acts : List values.ActValue) → announcing.IsAnnouncedBy acts self.old → announcing.IsAnnouncedBy (acts ++ values.spoken_value act.now ∷ []) self.new) }
+        ensures err { OnErr result ((acts : List values.ActValue) → announcing.IsAnnouncedBy acts self.old → announcing.IsAnnouncedBy acts self.new) }
     {
         if let Some((guid, policies)) = endpoint_told(act) {
             return keep_first(&mut self.policies, guid, policies);
@@ -59,7 +58,7 @@ impl<'a> Announced<'a> {
 
     /// Notes acts in their order, as [`Announced::note`] does. After `Memory` what is kept is of no use.
     pub fn note_all(&mut self, acts: &[Spoken<'a>]) -> Result<(), Memory>
-        ensures { OnOk result ((before : List ActValue) → IsAnnouncedBy before self.old → IsAnnouncedBy (before ++ map spoken_value acts.now) self.new) }
+        ensures { OnOk result ((before : List values.ActValue) → announcing.IsAnnouncedBy before self.old → announcing.IsAnnouncedBy (before ++ map values.spoken_value acts.now) self.new) }
     {
         for act in acts {
             self.note(act)?;
@@ -69,7 +68,7 @@ impl<'a> Announced<'a> {
 
     /// The policies of an endpoint. Those of an endpoint that announces none where it is not announced.
     pub fn policies(&self, endpoint: Guid) -> Policies<'a>
-        ensures { (acts : List ActValue) → IsAnnouncedBy acts self.now → policies_value result ≡ unwrap_or (policies_among acts endpoint) unannounced }
+        ensures { (acts : List values.ActValue) → announcing.IsAnnouncedBy acts self.now → policies_spec.policies_value result ≡ unwrap_or (announcing.policies_among acts endpoint) policies_spec.unannounced }
     {
         match self.policies.get(&endpoint) {
             Some(policies) => *policies,
@@ -79,8 +78,8 @@ impl<'a> Announced<'a> {
 
     /// The host of a participant. Unknown where it is not announced.
     pub fn host(&self, participant: Guid) -> Host
-        ensures kept { result ≡ kept_host self.now participant }
-        ensures announced { (acts : List ActValue) → IsAnnouncedBy acts self.now → result ≡ unwrap_or (host_among acts participant) unknown_host }
+        ensures kept { result ≡ announcing.kept_host self.now participant }
+        ensures announced { (acts : List values.ActValue) → announcing.IsAnnouncedBy acts self.now → result ≡ unwrap_or (announcing.host_among acts participant) announcing.unknown_host }
     {
         match self.hosts.get(&participant) {
             Some(host) => *host,
@@ -90,7 +89,7 @@ impl<'a> Announced<'a> {
 
     /// An endpoint with what is announced of it, and of its participant.
     pub fn profile(&self, endpoint: &Endpoint<'a>) -> Profile<'a>
-        ensures { (acts : List ActValue) → IsAnnouncedBy acts self.now → profile_value result ≡ profile_among acts (endpoint_value endpoint.now) }
+        ensures { (acts : List values.ActValue) → announcing.IsAnnouncedBy acts self.now → fitting.profile_value result ≡ announcing.profile_among acts (endpoint_spec.endpoint_value endpoint.now) }
     {
         Profile {
             endpoint: *endpoint,
@@ -101,8 +100,8 @@ impl<'a> Announced<'a> {
 
     /// The profiles of endpoints, in the same order.
     pub fn profiles(&self, endpoints: &[Endpoint<'a>]) -> Result<Vec<Profile<'a>>, Memory>
-        ensures { IfOk result (λ profiles. (acts : List ActValue) → IsAnnouncedBy acts self.now
-            → map profile_value profiles.items ≡ map (profile_among acts) (map endpoint_value endpoints.now)) }
+        ensures { IfOk result (λ profiles. (acts : List values.ActValue) → announcing.IsAnnouncedBy acts self.now
+            → map fitting.profile_value profiles.items ≡ map (announcing.profile_among acts) (map endpoint_spec.endpoint_value endpoints.now)) }
     {
         let mut profiles = Vec::with_capacity(self.alloc, endpoints.len())?;
         for endpoint in endpoints {
@@ -113,8 +112,8 @@ impl<'a> Announced<'a> {
 
     /// The host of the participant of a prefix. Unknown where it is not announced.
     pub fn host_of(&self, prefix: GuidPrefix) -> Host
-        ensures kept { result ≡ hosts_in self.now prefix }
-        ensures announced { (acts : List ActValue) → IsAnnouncedBy acts self.now → result ≡ announcing.host_of acts prefix }
+        ensures kept { result ≡ announcing.hosts_in self.now prefix }
+        ensures announced { (acts : List values.ActValue) → announcing.IsAnnouncedBy acts self.now → result ≡ announcing.host_of acts prefix }
     {
         self.host(participant_of(prefix))
     }
@@ -130,7 +129,7 @@ pub fn participant_of(prefix: GuidPrefix) -> Guid
 
 /// The payload of an act that has a whole one; no octets of any other.
 pub fn payload_of<'a>(act: &Spoken<'a>) -> &'a [u8]
-    ensures { result.now ≡ announcing.payload_of (spoken_value act.now).body }
+    ensures { result.now ≡ announcing.payload_of (values.spoken_value act.now).body }
 {
     match &act.body {
         SpokenBody::Act(ActBody::Data(data)) => match &data.payload {
@@ -143,7 +142,7 @@ pub fn payload_of<'a>(act: &Spoken<'a>) -> &'a [u8]
 
 /// The endpoint that an act announces, and its policies.
 fn endpoint_told<'a>(act: &Spoken<'a>) -> Option<(Guid, Policies<'a>)>
-    ensures { option_map (λ told. (told.0, policies_value told.1)) result ≡ policies_told (spoken_value act.now) }
+    ensures { option_map (λ told. (told.0, policies_spec.policies_value told.1)) result ≡ announcing.policies_told (values.spoken_value act.now) }
 {
     let endpoint = announced_endpoint(act)?;
     let policies = match list_in(payload_of(act)) {
@@ -155,7 +154,7 @@ fn endpoint_told<'a>(act: &Spoken<'a>) -> Option<(Guid, Policies<'a>)>
 
 /// The participant that an act announces, from any source and to any destination. None where it announces none, or has a fault.
 pub fn announced_participant(act: &Spoken<'_>) -> Option<Guid>
-    ensures { result ≡ participant_in (announcement_of (spoken_value act.now)) }
+    ensures { result ≡ notice.participant_in (notice.announcement_of (values.spoken_value act.now)) }
 {
     let SpokenBody::Act(ActBody::Data(data)) = &act.body else {
         return None;
@@ -174,7 +173,7 @@ pub fn announced_participant(act: &Spoken<'_>) -> Option<Guid>
 
 /// The participant that an act announces, and its host.
 fn participant_told(act: &Spoken<'_>) -> Option<(Guid, Host)>
-    ensures { result ≡ host_told (spoken_value act.now) }
+    ensures { result ≡ announcing.host_told (values.spoken_value act.now) }
 {
     let guid = announced_participant(act)?;
     let host = match list_in(payload_of(act)) {
@@ -190,7 +189,7 @@ pub fn keep_first<V: Copy + Drop>(
     guid: Guid,
     value: V,
 ) -> Result<(), Memory>
-    ensures ok { OnOk result (KeepsFirst kept.old.entries kept.new.entries guid value) }
+    ensures ok { OnOk result (told.KeepsFirst kept.old.entries kept.new.entries guid value) }
     ensures err { OnErr result (kept.new.entries ≡ kept.old.entries) }
 {
     if !kept.contains_key(&guid) {

@@ -1,5 +1,5 @@
 ghost use Rattle.std.specs.Prelude.{◌≡◌};
-ghost use Rattle.rtps_discovery.specs.Fields.{fields_value};
+ghost use Rattle.rtps_discovery.specs.Fields as fields;
 ghost use Rattle.rtps_policies.specs.Domains as domains;
 
 use crate::layout::{discovery_port, locator, pid};
@@ -39,14 +39,14 @@ fn port_of(value: &[u8], order: Order) -> Option<u32>
 
 /// The port in the first parameter of this id.
 fn port_in(pid: u16, list: &ParamList<'_>) -> Option<u32>
-    ensures { result ≡ domains.port_in pid (fields_value list.now) }
+    ensures { result ≡ domains.port_in pid (fields.fields_value list.now) }
 {
     port_of(list.first(pid)?, list.order())
 }
 
 /// The domain that a list announces.
 fn announced_domain(list: &ParamList<'_>) -> Option<u32>
-    ensures { result ≡ domains.announced_domain (fields_value list.now) }
+    ensures { result ≡ domains.announced_domain (fields.fields_value list.now) }
 {
     let value = list.first(pid::DOMAIN_ID)?;
     read_u32(value, list.order())
@@ -54,14 +54,14 @@ fn announced_domain(list: &ParamList<'_>) -> Option<u32>
 
 /// The domain that its multicast port tells.
 fn multicast_domain(list: &ParamList<'_>) -> Option<u32>
-    ensures { result ≡ domains.multicast_domain (fields_value list.now) }
+    ensures { result ≡ domains.multicast_domain (fields.fields_value list.now) }
 {
     domain_from(port_in(pid::METATRAFFIC_MULTICAST_LOCATOR, list)?)
 }
 
 /// The domain that its unicast port tells, if it is of Fast DDS.
 fn unicast_domain(list: &ParamList<'_>) -> Option<u32>
-    ensures { result ≡ domains.unicast_domain (fields_value list.now) }
+    ensures { result ≡ domains.unicast_domain (fields.fields_value list.now) }
 {
     if !is_of_fast(list) {
         return None;
@@ -71,7 +71,7 @@ fn unicast_domain(list: &ParamList<'_>) -> Option<u32>
 
 /// The domain of the participant that a list announces: the first of these that there is.
 pub(crate) fn domain_in(list: &ParamList<'_>) -> Option<u32>
-    ensures { result ≡ domains.domain_in (fields_value list.now) }
+    ensures { result ≡ domains.domain_in (fields.fields_value list.now) }
 {
     announced_domain(list)
         .or(multicast_domain(list))

@@ -1,7 +1,6 @@
 ghost use Rattle.std.specs.Prelude.{◌≡◌, ◌<◌, ◌≤◌, ◌^◌, Some};
 ghost use Rattle.std.specs.Fmt.{WritesOnOk};
-ghost use Rattle.rtps_policies.specs.DurationText.{duration_text, places_of, point_text};
-ghost use Rattle.rtps_policies.specs.Durations.{is_within, nanoseconds_in};
+ghost use Rattle.rtps_policies.specs.DurationText as duration_text;
 ghost use Rattle.rtps_policies.specs.Durations as durations;
 
 use rtps_ids::{Order, u32_at};
@@ -29,7 +28,7 @@ impl Duration {
 
     /// Whether it is no longer than another.
     pub fn is_within(self, other: Duration) -> bool
-        ensures { result ≡ is_within self other }
+        ensures { result ≡ durations.is_within self other }
     {
         self.seconds < other.seconds
             || (self.seconds == other.seconds && self.fraction <= other.fraction)
@@ -37,7 +36,7 @@ impl Duration {
 
     /// In nanoseconds. None if it is below 0.
     pub(crate) fn nanoseconds(self) -> Option<u64>
-        ensures { result ≡ nanoseconds_in self }
+        ensures { result ≡ durations.nanoseconds_in self }
     {
         if self.seconds < 0 {
             return None;
@@ -48,7 +47,7 @@ impl Duration {
 }
 
 impl fmt::Display for Duration {
-    ghost output = { λ duration. Some (duration_text duration) };
+    ghost output = { λ duration. Some (duration_text.duration_text duration) };
 
     /// In seconds, with at most nine places.
     #[tactic(auto, unfolding(crate::specs::DurationText::duration_text))]
@@ -78,7 +77,7 @@ fn nanoseconds_of(fraction: u32) -> u32
 struct PointText(u32);
 
 impl fmt::Display for PointText {
-    ghost output = { λ text. Some (point_text text.0) };
+    ghost output = { λ text. Some (duration_text.point_text text.0) };
 
     fn fmt<W: fmt::Write>(&self, f: &mut fmt::Formatter<W>) -> fmt::Result {
         if self.0 == 0 {
@@ -92,7 +91,7 @@ impl fmt::Display for PointText {
 /// Writes so many places of a number, at most nine, up to the last one that is not 0.
 fn write_places<W: fmt::Write>(count: u32, number: u32, f: &mut fmt::Formatter<W>) -> fmt::Result
     requires { count ≤ 9 }
-    ensures { WritesOnOk W.write_str_gives f.old result (places_of count number) f.new }
+    ensures { WritesOnOk W.write_str_gives f.old result (duration_text.places_of count number) f.new }
 {
     if count == 0 || number == 0 {
         return Ok(());

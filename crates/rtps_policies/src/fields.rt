@@ -1,8 +1,8 @@
 ghost use Rattle.std.specs.Prelude.{◌≡◌, ◌≤◌, length};
 ghost use Rattle.std.specs.Option.{option_map};
 ghost use Rattle.std.specs.Result.{result_ok};
-ghost use Rattle.rtps_discovery.specs.Announcement.{fields_of, order_of};
-ghost use Rattle.rtps_discovery.specs.Fields.{fields_value};
+ghost use Rattle.rtps_discovery.specs.Announcement as announcement;
+ghost use Rattle.rtps_discovery.specs.Fields as fields;
 
 use crate::layout::header;
 use rtps_ids::Order;
@@ -12,7 +12,7 @@ use rtps_params::ParamList;
 /// was read of the same payload does not keep its list, so this reads it again.
 #[tactic(auto, unfolding(rtps_discovery::specs::Announcement::fields_of))]
 pub fn list_in(payload: &[u8]) -> Option<ParamList<'_>>
-    ensures { option_map fields_value result ≡ result_ok (fields_of payload.now) }
+    ensures { option_map fields.fields_value result ≡ result_ok (announcement.fields_of payload.now) }
 {
     if payload.len() < header::SIZE {
         return None;
@@ -27,7 +27,7 @@ pub fn list_in(payload: &[u8]) -> Option<ParamList<'_>>
 /// The order that the representation of a payload gives, if it is that of parameter lists.
 fn payload_order(payload: &[u8]) -> Option<Order>
     requires { 4 ≤ length payload.now }
-    ensures { result ≡ order_of payload.now }
+    ensures { result ≡ announcement.order_of payload.now }
 {
     let id = &payload[..header::ID_SIZE];
     if id == header::PL_CDR_BE.as_slice() {

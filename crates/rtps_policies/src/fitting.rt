@@ -1,7 +1,6 @@
 ghost use Rattle.std.specs.Prelude.{◌≡◌, ◌↔◌, IfOk, IsTrue, Some, filter, not};
-ghost use Rattle.rtps_policies.specs.Fitting.{Suits, profile_value};
 ghost use Rattle.rtps_policies.specs.Fitting as fitting;
-ghost use Rattle.rtps_policies.specs.PolicyText.{policy_name};
+ghost use Rattle.rtps_policies.specs.PolicyText as policy_text;
 
 use crate::host::Host;
 use crate::policies::Policies;
@@ -53,15 +52,15 @@ const TABLE: [Policy; 11] = [
 impl Policy {
     /// Whether what a writer offers suits what a reader requests.
     pub fn suits(self, writer: &Profile<'_>, reader: &Profile<'_>) -> bool
-        ensures meaning { IsTrue result ↔ Suits self (profile_value writer.now) (profile_value reader.now) }
-        ensures test { result ≡ fitting.suits self (profile_value writer.now) (profile_value reader.now) }
+        ensures meaning { IsTrue result ↔ fitting.Suits self (fitting.profile_value writer.now) (fitting.profile_value reader.now) }
+        ensures test { result ≡ fitting.suits self (fitting.profile_value writer.now) (fitting.profile_value reader.now) }
     {
         is_suited(self, writer, reader)
     }
 }
 
 impl fmt::Display for Policy {
-    ghost output = { λ policy. Some (policy_name policy) };
+    ghost output = { λ policy. Some (policy_text.policy_name policy) };
 
     /// Its name.
     #[tactic(auto, unfolding(crate::specs::PolicyText::policy_name))]
@@ -85,7 +84,7 @@ impl fmt::Display for Policy {
 
 /// Whether it suits. [`Policy::suits`] has a second clause, with the meaning.
 fn is_suited(policy: Policy, writer: &Profile<'_>, reader: &Profile<'_>) -> bool
-    ensures { result ≡ fitting.suits policy (profile_value writer.now) (profile_value reader.now) }
+    ensures { result ≡ fitting.suits policy (fitting.profile_value writer.now) (fitting.profile_value reader.now) }
 {
     let offered = &writer.policies;
     let requested = &reader.policies;
@@ -114,7 +113,7 @@ pub fn reasons(
     writer: &Profile<'_>,
     reader: &Profile<'_>,
 ) -> Result<Vec<Policy>, Memory>
-    ensures { IfOk result (λ found. found.items ≡ fitting.reasons (profile_value writer.now) (profile_value reader.now)) }
+    ensures { IfOk result (λ found. found.items ≡ fitting.reasons (fitting.profile_value writer.now) (fitting.profile_value reader.now)) }
 {
     unsuited_among(alloc, &TABLE, writer, reader)
 }
@@ -126,7 +125,7 @@ fn unsuited_among(
     writer: &Profile<'_>,
     reader: &Profile<'_>,
 ) -> Result<Vec<Policy>, Memory>
-    ensures { IfOk result (λ found. found.items ≡ filter (λ policy. not (fitting.suits policy (profile_value writer.now) (profile_value reader.now))) policies.now) }
+    ensures { IfOk result (λ found. found.items ≡ filter (λ policy. not (fitting.suits policy (fitting.profile_value writer.now) (fitting.profile_value reader.now))) policies.now) }
 {
     let mut found = Vec::new(alloc);
     for policy in policies {

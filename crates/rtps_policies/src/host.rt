@@ -1,9 +1,8 @@
 ghost use Rattle.std.specs.Prelude.{◌≡◌, Some};
 ghost use Rattle.std.specs.List.{list_any};
 ghost use Rattle.std.specs.Fmt.{WritesOnOk};
-ghost use Rattle.rtps_discovery.specs.Fields.{fields_value};
-ghost use Rattle.rtps_policies.specs.AddressText.{address_text, groups_of, groups_text};
-ghost use Rattle.rtps_policies.specs.Hosts.{address_by, address_of, host_in, is_v4};
+ghost use Rattle.rtps_discovery.specs.Fields as fields;
+ghost use Rattle.rtps_policies.specs.AddressText as address_text;
 ghost use Rattle.rtps_policies.specs.Hosts as hosts;
 
 use crate::domain::domain_in;
@@ -24,14 +23,14 @@ pub enum Address {
 impl Address {
     /// Whether it is of IPv4.
     pub(crate) fn is_v4(self) -> bool
-        ensures { result ≡ is_v4 self }
+        ensures { result ≡ hosts.is_v4 self }
     {
         matches!(self, Address::V4(_))
     }
 }
 
 impl fmt::Display for Address {
-    ghost output = { λ address. Some (address_text address) };
+    ghost output = { λ address. Some (address_text.address_text address) };
 
     #[tactic(auto, unfolding(crate::specs::AddressText::address_text))]
     fn fmt<W: fmt::Write>(&self, f: &mut fmt::Formatter<W>) -> fmt::Result {
@@ -44,7 +43,7 @@ impl fmt::Display for Address {
 
 /// Writes the numbers of pairs of octets, with a colon between each two.
 fn write_groups<W: fmt::Write>(octets: &[u8], f: &mut fmt::Formatter<W>) -> fmt::Result
-    ensures { WritesOnOk W.write_str_gives f.old result (groups_text (groups_of octets.now)) f.new }
+    ensures { WritesOnOk W.write_str_gives f.old result (address_text.groups_text (address_text.groups_of octets.now)) f.new }
 {
     let [high, low, behind @ ..] = octets else {
         return Ok(());
@@ -82,7 +81,7 @@ impl Host {
 
     /// What a parameter list announces.
     pub(crate) fn of(list: &ParamList<'_>) -> Host
-        ensures { result ≡ host_in (fields_value list.now) }
+        ensures { result ≡ hosts.host_in (fields.fields_value list.now) }
     {
         Host {
             domain: domain_in(list),
@@ -95,7 +94,7 @@ impl Host {
 
 /// The lease in a list, in nanoseconds.
 fn lease_in(list: &ParamList<'_>) -> u64
-    ensures { result ≡ hosts.lease_in (fields_value list.now) }
+    ensures { result ≡ hosts.lease_in (fields.fields_value list.now) }
 {
     let Some(value) = list.first(pid::PARTICIPANT_LEASE_DURATION) else {
         return lease::DEFAULT;
@@ -108,7 +107,7 @@ fn lease_in(list: &ParamList<'_>) -> u64
 
 /// The address in a locator, or None if it is cut or of another kind.
 fn read_address(value: &[u8], order: Order) -> Option<Address>
-    ensures { result ≡ address_of order value.now }
+    ensures { result ≡ hosts.address_of order value.now }
 {
     if value.len() < locator::SIZE {
         return None;
@@ -128,7 +127,7 @@ fn read_address(value: &[u8], order: Order) -> Option<Address>
 
 /// The address that a parameter announces, if it is a default unicast locator.
 fn announced_address(pid: u16, value: &[u8], order: Order) -> Option<Address>
-    ensures { result ≡ address_by order (pid, value.now) }
+    ensures { result ≡ hosts.address_by order (pid, value.now) }
 {
     if pid == pid::DEFAULT_UNICAST_LOCATOR {
         read_address(value, order)
@@ -139,7 +138,7 @@ fn announced_address(pid: u16, value: &[u8], order: Order) -> Option<Address>
 
 /// The first address of IPv4 in a list, or else the first one of IPv6.
 fn address_in(list: &ParamList<'_>) -> Option<Address>
-    ensures { result ≡ hosts.address_in (fields_value list.now) }
+    ensures { result ≡ hosts.address_in (fields.fields_value list.now) }
 {
     let mut found = None;
     for (pid, value) in list.params() {
@@ -176,7 +175,7 @@ fn announces_memory(pid: u16, value: &[u8], order: Order) -> bool
 
 /// Whether a list announces a unicast locator of memory.
 fn announces_memory_in(list: &ParamList<'_>) -> bool
-    ensures { result ≡ list_any (hosts.announces_memory (fields_value list.now).order) (fields_value list.now).pairs }
+    ensures { result ≡ list_any (hosts.announces_memory (fields.fields_value list.now).order) (fields.fields_value list.now).pairs }
 {
     for (pid, value) in list.params() {
         if announces_memory(pid, value, list.order()) {

@@ -1,5 +1,5 @@
 ghost use Rattle.std.specs.Prelude.{◌≡◌};
-ghost use Rattle.rtps_policies.specs.Kinds.{destination_order_of, ownership_of};
+ghost use Rattle.rtps_policies.specs.Kinds as kinds;
 
 use crate::layout::{destination_order, ownership};
 use rtps_ids::Order;
@@ -15,7 +15,7 @@ pub enum Ownership {
 impl Ownership {
     /// The kind in a value, or None if it is cut or unknown.
     pub(crate) fn read(value: &[u8], order: Order) -> Option<Ownership>
-        ensures { result ≡ ownership_of order value.now }
+        ensures { result ≡ kinds.ownership_of order value.now }
     {
         match read_u32(value, order) {
             Some(ownership::SHARED) => Some(Ownership::Shared),
@@ -35,7 +35,7 @@ pub enum DestinationOrder {
 impl DestinationOrder {
     /// The kind in a value, or None if it is cut or unknown.
     pub(crate) fn read(value: &[u8], order: Order) -> Option<DestinationOrder>
-        ensures { result ≡ destination_order_of order value.now }
+        ensures { result ≡ kinds.destination_order_of order value.now }
     {
         match read_u32(value, order) {
             Some(destination_order::BY_RECEPTION) => Some(DestinationOrder::ByReception),

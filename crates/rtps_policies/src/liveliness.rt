@@ -1,6 +1,6 @@
 ghost use Rattle.std.specs.Prelude.{◌≡◌};
-ghost use Rattle.rtps_policies.specs.Fitting.{liveliness_suits};
-ghost use Rattle.rtps_policies.specs.Kinds.{liveliness_kind_of, liveliness_of};
+ghost use Rattle.rtps_policies.specs.Fitting as fitting;
+ghost use Rattle.rtps_policies.specs.Kinds as kinds;
 
 use crate::duration::{Duration, duration_at};
 use crate::layout::liveliness;
@@ -31,7 +31,7 @@ impl Liveliness {
 
     /// The liveliness in a value, or None if it is cut or its kind is unknown.
     pub(crate) fn read(value: &[u8], order: Order) -> Option<Liveliness>
-        ensures { result ≡ liveliness_of order value.now }
+        ensures { result ≡ kinds.liveliness_of order value.now }
     {
         let kind = kind_in(value, order)?;
         let lease = duration_at(order, value, liveliness::LEASE)?;
@@ -40,7 +40,7 @@ impl Liveliness {
 
     /// Whether it suits what is requested: as strong, with a lease that is no longer.
     pub(crate) fn suits(self, requested: Liveliness) -> bool
-        ensures { result ≡ liveliness_suits self requested }
+        ensures { result ≡ fitting.liveliness_suits self requested }
     {
         self.kind >= requested.kind && self.lease.is_within(requested.lease)
     }
@@ -48,7 +48,7 @@ impl Liveliness {
 
 /// The kind at the beginning of a value.
 fn kind_in(value: &[u8], order: Order) -> Option<LivelinessKind>
-    ensures { result ≡ liveliness_kind_of order value.now }
+    ensures { result ≡ kinds.liveliness_kind_of order value.now }
 {
     match read_u32(value, order) {
         Some(liveliness::AUTOMATIC) => Some(LivelinessKind::Automatic),

@@ -1,10 +1,8 @@
 ghost use Rattle.std.specs.Prelude.{◌≡◌, ◌<◌, ◌∷◌, ◌==◌, [], IfSome, MatchOption, length, position, true};
 ghost use Rattle.std.specs.List.{list_any};
-ghost use Rattle.rtps_policies.specs.NamePatterns.{accepts, fits_parts, is_many, is_marked, is_member, is_open, parts_of, without_mark};
 ghost use Rattle.rtps_policies.specs.NamePatterns as name_patterns;
-ghost use Rattle.rtps_policies.specs.NamePatterns.PartValue.{Many};
-ghost use Rattle.rtps_policies.specs.Segments.{AreFixed, IsFront, IsLaterSegment, IsOpened, IsSegment, part_value};
-ghost use Rattle.rtps_policies.specs.Sets.{IsFrontRange, IsSetIn};
+ghost use Rattle.rtps_policies.specs.Segments as segments;
+ghost use Rattle.rtps_policies.specs.Sets as sets;
 
 use crate::layout::pattern::{CARET, CLOSING, HYPHEN, MARK, OPENING, QUESTION, STAR};
 
@@ -42,8 +40,8 @@ pub(crate) enum Segment<'s> {
 
 /// Whether a set begins with a mark, and what is behind it.
 fn unmarked(behind: &[u8]) -> (bool, &[u8])
-    ensures marked { result.0 ≡ is_marked behind.now }
-    ensures body { result.1.now ≡ without_mark behind.now }
+    ensures marked { result.0 ≡ name_patterns.is_marked behind.now }
+    ensures body { result.1.now ≡ name_patterns.without_mark behind.now }
 {
     match behind {
         [MARK | CARET, body @ ..] => (true, body),
@@ -70,7 +68,7 @@ fn closing_in(body: &[u8]) -> Option<usize>
 
 /// The set whose opening bracket is before these octets. None where no bracket closes it.
 fn set_in(behind: &[u8]) -> Option<Set<'_>>
-    ensures { IsSetIn behind.now result }
+    ensures { sets.IsSetIn behind.now result }
 {
     let (outside, body) = unmarked(behind);
     let place = closing_in(body)?;
@@ -84,7 +82,7 @@ fn set_in(behind: &[u8]) -> Option<Set<'_>>
 
 /// The part that an opening bracket begins: a set, or the bracket itself where nothing closes it.
 fn opened(behind: &[u8]) -> (Part<'_>, &[u8])
-    ensures { IsOpened behind.now (part_value result.0) result.1.now }
+    ensures { segments.IsOpened behind.now (segments.part_value result.0) result.1.now }
 {
     let Some(set) = set_in(behind) else {
         return (Part::Octet(OPENING), behind);
@@ -96,7 +94,7 @@ fn opened(behind: &[u8]) -> (Part<'_>, &[u8])
 
 /// The first part of a pattern, and what is behind it.
 fn front(pattern: &[u8]) -> Option<(Part<'_>, &[u8])>
-    ensures { MatchOption result (pattern.now ≡ []) (λ found. IsFront pattern.now (part_value found.0) found.1.now) }
+    ensures { MatchOption result (pattern.now ≡ []) (λ found. segments.IsFront pattern.now (segments.part_value found.0) found.1.now) }
 {
     let (octet, behind) = pattern.split_first()?;
     match *octet {
@@ -109,7 +107,7 @@ fn front(pattern: &[u8]) -> Option<(Part<'_>, &[u8])>
 
 /// The first range of the members of a set, from its first octet to its last, and what is behind it. None where there is none.
 fn front_range(members: &[u8]) -> Option<(u8, u8, &[u8])>
-    ensures { IsFrontRange members.now result }
+    ensures { sets.IsFrontRange members.now result }
 {
     match members {
         [first, HYPHEN, last, behind @ ..] => Some((*first, *last, behind)),
@@ -120,7 +118,7 @@ fn front_range(members: &[u8]) -> Option<(u8, u8, &[u8])>
 
 /// Whether an octet is a member of a set.
 fn has_member(members: &[u8], octet: u8) -> bool
-    ensures { result ≡ is_member members.now octet }
+    ensures { result ≡ name_patterns.is_member members.now octet }
 {
     let mut rest = members;
     while let Some((first, last, behind)) = front_range(rest) {
@@ -135,7 +133,7 @@ fn has_member(members: &[u8], octet: u8) -> bool
 impl Part<'_> {
     /// Whether an octet is what it stands for. A `*` stands for no octet alone.
     fn accepts(self, octet: u8) -> bool
-        ensures { result ≡ accepts (part_value self.entry) octet }
+        ensures { result ≡ name_patterns.accepts (segments.part_value self.entry) octet }
     {
         match self {
             Part::Octet(own) => octet == own,
@@ -147,14 +145,14 @@ impl Part<'_> {
 
     /// Whether it is `*`.
     fn is_many(self) -> bool
-        ensures { result ≡ is_many (part_value self.entry) }
+        ensures { result ≡ name_patterns.is_many (segments.part_value self.entry) }
     {
         matches!(self, Part::Many)
     }
 
     /// Whether it stands for other octets than itself.
     fn is_open(self) -> bool
-        ensures { result ≡ is_open (part_value self.entry) }
+        ensures { result ≡ name_patterns.is_open (segments.part_value self.entry) }
     {
         !matches!(self, Part::Octet(_))
     }
@@ -162,7 +160,7 @@ impl Part<'_> {
 
 /// Holds the parts of a pattern up to its first `*` against the beginning of a name.
 fn leading_segment<'s>(pattern: &'s [u8], name: &'s [u8]) -> Segment<'s>
-    ensures { IsSegment pattern.now name.now result }
+    ensures { segments.IsSegment pattern.now name.now result }
 {
     let mut rest = pattern;
     let mut left = name;
@@ -188,7 +186,7 @@ fn leading_segment<'s>(pattern: &'s [u8], name: &'s [u8]) -> Segment<'s>
 
 /// How many parts a pattern has, where none of them is `*`. Each of them stands for one octet.
 fn fixed_count(pattern: &[u8]) -> Option<usize>
-    ensures { MatchOption result (list_any is_many (parts_of pattern.now) ≡ true) (λ count. AreFixed (parts_of pattern.now) × (count ≡ length (parts_of pattern.now))) }
+    ensures { MatchOption result (list_any name_patterns.is_many (name_patterns.parts_of pattern.now) ≡ true) (λ count. segments.AreFixed (name_patterns.parts_of pattern.now) × (count ≡ length (name_patterns.parts_of pattern.now))) }
 {
     let mut count = 0;
     let mut rest = pattern;
@@ -205,9 +203,9 @@ fn fixed_count(pattern: &[u8]) -> Option<usize>
 /// Whether a name is what a pattern behind a `*` stands for, which has so many parts and none of them is `*`: its last octets are what the
 /// parts stand for, and no other place of the name is tried.
 fn fits_last(pattern: &[u8], count: usize, name: &[u8]) -> bool
-    requires fixed { AreFixed (parts_of pattern.now) }
-    requires count { count ≡ length (parts_of pattern.now) }
-    ensures { result ≡ fits_parts (Many ∷ parts_of pattern.now) name.now }
+    requires fixed { segments.AreFixed (name_patterns.parts_of pattern.now) }
+    requires count { count ≡ length (name_patterns.parts_of pattern.now) }
+    ensures { result ≡ name_patterns.fits_parts (name_patterns.PartValue.Many ∷ name_patterns.parts_of pattern.now) name.now }
 {
     if name.len() < count {
         return false;
@@ -222,7 +220,7 @@ fn fits_last(pattern: &[u8], count: usize, name: &[u8]) -> bool
 
 /// The first place of a name, behind a `*`, where the parts of a pattern up to its next `*` stand.
 fn later_segment<'s>(pattern: &'s [u8], name: &'s [u8]) -> Segment<'s>
-    ensures { IsLaterSegment pattern.now name.now result }
+    ensures { segments.IsLaterSegment pattern.now name.now result }
 {
     let mut left = name;
     'places: loop {
@@ -248,7 +246,7 @@ fn later_segment<'s>(pattern: &'s [u8], name: &'s [u8]) -> Segment<'s>
 
 /// Whether a name is what a pattern behind a `*` stands for.
 fn fits_behind(pattern: &[u8], name: &[u8]) -> bool
-    ensures { result ≡ fits_parts (Many ∷ parts_of pattern.now) name.now }
+    ensures { result ≡ name_patterns.fits_parts (name_patterns.PartValue.Many ∷ name_patterns.parts_of pattern.now) name.now }
 {
     let mut rest = pattern;
     let mut left = name;

@@ -2,8 +2,8 @@ ghost use Rattle.std.specs.Prelude.{◌≡◌, ◌+◌, ◌<◌, ◌^◌, ◌&&�
 ghost use Rattle.std.specs.BTreeMap.{get};
 ghost use Rattle.std.specs.BTreeSet.{contains};
 ghost use Rattle.std.specs.List.{list_any};
-ghost use Rattle.rtps_receiver.specs.Values.{ActValue, spoken_value};
-ghost use Rattle.rtps_policies.specs.Namings.{AreNamingsOf, named_by, naming_cmp, names};
+ghost use Rattle.rtps_receiver.specs.Values as values;
+ghost use Rattle.rtps_policies.specs.Namings as namings;
 ghost use Rattle.rtps_policies.specs.declared.naming.Naming.{Naming as NamingValue};
 
 use rtps_ids::{GuidPrefix, Memory};
@@ -40,7 +40,7 @@ pub struct Namings {
 impl Namings {
     /// Those of no datagrams. It takes no memory.
     pub fn new(alloc: Global) -> Namings
-        ensures { AreNamingsOf [] result }
+        ensures { namings.AreNamingsOf [] result }
     {
         Namings {
             counts: BTreeMap::new(alloc),
@@ -50,16 +50,16 @@ impl Namings {
 
     /// Counts one datagram more, by its acts. After `Memory` the counts are of no use.
     pub fn note(&mut self, acts: &[Spoken<'_>]) -> Result<(), Memory>
-        requires { (naming : NamingValue) → named_by self.old naming + 1 < 2 ^ 64 }
-        ensures { OnOk result ((datagrams : List (List ActValue)) → AreNamingsOf datagrams self.old
-            → AreNamingsOf (datagrams ++ map spoken_value acts.now ∷ []) self.new) }
+        requires { (naming : NamingValue) → namings.named_by self.old naming + 1 < 2 ^ 64 }
+        ensures { OnOk result ((datagrams : List (List values.ActValue)) → namings.AreNamingsOf datagrams self.old
+            → namings.AreNamingsOf (datagrams ++ map values.spoken_value acts.now ∷ []) self.new) }
     {
         self.count_datagram(acts)
     }
 
     /// In how many datagrams a participant names another.
     pub fn named(&self, naming: Naming) -> u64
-        ensures { result ≡ named_by self.now naming }
+        ensures { result ≡ namings.named_by self.now naming }
     {
         match self.counts.get(&naming) {
             Some(count) => *count,
@@ -69,9 +69,9 @@ impl Namings {
 
     /// Counts the acts of one datagram, each naming once. After `Memory` the counts are of no use.
     fn count_datagram(&mut self, acts: &[Spoken<'_>]) -> Result<(), Memory>
-        requires { (naming : NamingValue) → unwrap_or (get naming_cmp self.old.counts naming) 0 + 1 < 2 ^ 64 }
-        ensures { OnOk result ((naming : NamingValue) → unwrap_or (get naming_cmp self.new.counts naming) 0
-            ≡ unwrap_or (get naming_cmp self.old.counts naming) 0 + (if list_any (names naming) (map spoken_value acts.now) then 1 else 0)) }
+        requires { (naming : NamingValue) → unwrap_or (get namings.naming_cmp self.old.counts naming) 0 + 1 < 2 ^ 64 }
+        ensures { OnOk result ((naming : NamingValue) → unwrap_or (get namings.naming_cmp self.new.counts naming) 0
+            ≡ unwrap_or (get namings.naming_cmp self.old.counts naming) 0 + (if list_any (namings.names naming) (map values.spoken_value acts.now) then 1 else 0)) }
     {
         let mut seen = BTreeSet::new(self.alloc);
         for act in acts {
@@ -82,12 +82,12 @@ impl Namings {
 
     /// Counts the naming of an act, unless it was seen. After `Memory` the counts are of no use.
     fn count_act(&mut self, seen: &mut BTreeSet<Naming>, act: &Spoken<'_>) -> Result<(), Memory>
-        requires { (naming : NamingValue) → contains naming_cmp seen.old naming ≡ false → unwrap_or (get naming_cmp self.old.counts naming) 0 + 1 < 2 ^ 64 }
-        ensures seen { OnOk result ((naming : NamingValue) → contains naming_cmp seen.new naming
-            ≡ (contains naming_cmp seen.old naming || names naming (spoken_value act.now))) }
-        ensures count { OnOk result ((naming : NamingValue) → unwrap_or (get naming_cmp self.new.counts naming) 0
-            ≡ unwrap_or (get naming_cmp self.old.counts naming) 0
-            + (if names naming (spoken_value act.now) && not (contains naming_cmp seen.old naming) then 1 else 0)) }
+        requires { (naming : NamingValue) → contains namings.naming_cmp seen.old naming ≡ false → unwrap_or (get namings.naming_cmp self.old.counts naming) 0 + 1 < 2 ^ 64 }
+        ensures seen { OnOk result ((naming : NamingValue) → contains namings.naming_cmp seen.new naming
+            ≡ (contains namings.naming_cmp seen.old naming || namings.names naming (values.spoken_value act.now))) }
+        ensures count { OnOk result ((naming : NamingValue) → unwrap_or (get namings.naming_cmp self.new.counts naming) 0
+            ≡ unwrap_or (get namings.naming_cmp self.old.counts naming) 0
+            + (if namings.names naming (values.spoken_value act.now) && not (contains namings.naming_cmp seen.old naming) then 1 else 0)) }
     {
         let Some(dest) = act.dest else {
             return Ok(());

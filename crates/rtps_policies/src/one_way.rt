@@ -1,8 +1,8 @@
 ghost use Rattle.std.specs.Prelude.{IfOk};
-ghost use Rattle.rtps_policies.specs.Announcing.{IsAnnouncedBy};
-ghost use Rattle.rtps_policies.specs.Namings.{AreNamingsOf};
-ghost use Rattle.rtps_policies.specs.OneWays.{AreOneWayIn};
-ghost use Rattle.rtps_policies.specs.Silence.{Traffic};
+ghost use Rattle.rtps_policies.specs.Announcing as announcing;
+ghost use Rattle.rtps_policies.specs.Namings as namings_spec;
+ghost use Rattle.rtps_policies.specs.OneWays as one_ways;
+ghost use Rattle.rtps_policies.specs.Silence as silence;
 
 use crate::announced::Announced;
 use crate::naming::{Naming, Namings};
@@ -24,8 +24,8 @@ pub fn one_way_namings(
     announced: &Announced<'_>,
     namings: &Namings,
 ) -> Result<Vec<OneWay>, Memory>
-    ensures { IfOk result (λ found. (traffic : Traffic) → IsAnnouncedBy traffic.announcing announced.now
-        → AreNamingsOf traffic.datagrams namings.now → AreOneWayIn traffic found.items) }
+    ensures { IfOk result (λ found. (traffic : silence.Traffic) → announcing.IsAnnouncedBy traffic.announcing announced.now
+        → namings_spec.AreNamingsOf traffic.datagrams namings.now → one_ways.AreOneWayIn traffic found.items) }
 {
     let mut found = Vec::new(alloc);
     for (naming, count) in namings.counts.iter() {

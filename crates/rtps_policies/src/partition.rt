@@ -1,10 +1,10 @@
 ghost use Rattle.std.specs.Prelude.{◌≡◌, ◌==◌, MatchOption, Some, None, drop, length};
 ghost use Rattle.std.specs.List.{list_any};
 ghost use Rattle.std.specs.Option.{option_map};
-ghost use Rattle.rtps_params.specs.Values.{text_of};
+ghost use Rattle.rtps_params.specs.Values as values;
 ghost use Rattle.rtps_policies.specs.NamePatterns as name_patterns;
-ghost use Rattle.rtps_policies.specs.Sequences.{partition_of, text_room, texts_in};
-ghost use Rattle.rtps_policies.specs.Views.{partition_value};
+ghost use Rattle.rtps_policies.specs.Sequences as sequences;
+ghost use Rattle.rtps_policies.specs.Views as views;
 
 use crate::layout::sequence::{ALIGNMENT, COUNT_SIZE, LENGTH_SIZE};
 use crate::name_pattern::names_fit;
@@ -31,11 +31,11 @@ pub struct Names<'a> {
 
 impl<'a> Model for Names<'a> {
     ghost use Rattle.std.specs.Prelude.{ℕ, List};
-    ghost use Rattle.rtps_policies.specs.Sequences.{texts_in};
+    ghost use Rattle.rtps_policies.specs.Sequences as sequences;
 
     ghost Value = { List (List ℕ) };
 
-    ghost view = { λ names. texts_in names.count names.order names.rest.now };
+    ghost view = { λ names. sequences.texts_in names.count names.order names.rest.now };
 }
 
 impl<'a> Iterator for Names<'a> {
@@ -68,7 +68,7 @@ impl<'a> Partition<'a> {
 
     /// The names in a value, or None if one of them cannot be read.
     pub(crate) fn read(value: &'a [u8], order: Order) -> Option<Partition<'a>>
-        ensures { option_map partition_value result ≡ partition_of order value.now }
+        ensures { option_map views.partition_value result ≡ sequences.partition_of order value.now }
     {
         let count = read_u32(value, order)?;
         let octets = &value[COUNT_SIZE..];
@@ -87,7 +87,7 @@ impl<'a> Partition<'a> {
 
     /// Its names, in the order in which they are announced: one at least.
     pub fn names(&self) -> Names<'a>
-        ensures { result ≡ partition_value self.now }
+        ensures { result ≡ views.partition_value self.now }
     {
         Names {
             count: self.count,
@@ -98,7 +98,7 @@ impl<'a> Partition<'a> {
 
     /// Whether some name of one fits some name of the other.
     pub(crate) fn fits(&self, other: &Partition<'_>) -> bool
-        ensures { result ≡ list_any (λ one. list_any (name_patterns.names_fit one) (partition_value other.now)) (partition_value self.now) }
+        ensures { result ≡ list_any (λ one. list_any (name_patterns.names_fit one) (views.partition_value other.now)) (views.partition_value self.now) }
     {
         for name in self.names() {
             if has_fitting(name, other) {
@@ -111,7 +111,7 @@ impl<'a> Partition<'a> {
 
 /// Whether a name fits some name of a partition.
 fn has_fitting(name: &[u8], partition: &Partition<'_>) -> bool
-    ensures { result ≡ list_any (name_patterns.names_fit name.now) (partition_value partition.now) }
+    ensures { result ≡ list_any (name_patterns.names_fit name.now) (views.partition_value partition.now) }
 {
     for other in partition.names() {
         if names_fit(name, other) {
@@ -123,8 +123,8 @@ fn has_fitting(name: &[u8], partition: &Partition<'_>) -> bool
 
 /// The text at the beginning of octets, and what is from the next one on. None if it cannot be read.
 fn front_text(octets: &[u8], order: Order) -> Option<(&[u8], &[u8])>
-    ensures { MatchOption result (text_of order octets.now ≡ None)
-        (λ found. (text_of order octets.now ≡ Some found.0.now) × (found.1.now ≡ drop (text_room order octets.now) octets.now)) }
+    ensures { MatchOption result (values.text_of order octets.now ≡ None)
+        (λ found. (values.text_of order octets.now ≡ Some found.0.now) × (found.1.now ≡ drop (sequences.text_room order octets.now) octets.now)) }
 {
     let text = read_text(octets, order)?;
     let size = read_u32(octets, order)? as usize;
@@ -139,7 +139,7 @@ fn front_text(octets: &[u8], order: Order) -> Option<(&[u8], &[u8])>
 
 /// Whether so many texts are at the beginning of octets.
 fn are_texts(octets: &[u8], order: Order, count: u32) -> bool
-    ensures { result ≡ (length (texts_in count order octets.now) == count) }
+    ensures { result ≡ (length (sequences.texts_in count order octets.now) == count) }
 {
     let mut rest = octets;
     for _ in 0..count {

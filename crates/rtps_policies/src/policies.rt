@@ -1,8 +1,7 @@
 ghost use Rattle.std.specs.Prelude.{◌≡◌};
-ghost use Rattle.rtps_discovery.specs.Fields.{fields_value};
-ghost use Rattle.rtps_policies.specs.Policies.{policies_in, policies_value, unannounced};
+ghost use Rattle.rtps_discovery.specs.Fields as fields;
 ghost use Rattle.rtps_policies.specs.Policies as policies;
-ghost use Rattle.rtps_policies.specs.Views.{partition_value, representations_value};
+ghost use Rattle.rtps_policies.specs.Views as views;
 
 use crate::duration::{Duration, duration_at};
 use crate::kinds::{DestinationOrder, Ownership};
@@ -30,7 +29,7 @@ pub struct Policies<'a> {
 impl Policies<'static> {
     /// Those of an endpoint that announces none: the defaults of DDS.
     pub fn unannounced() -> Policies<'static>
-        ensures { policies_value result ≡ unannounced }
+        ensures { policies.policies_value result ≡ policies.unannounced }
     {
         Policies {
             deadline: Duration::INFINITE,
@@ -49,7 +48,7 @@ impl<'a> Policies<'a> {
     /// Those that a parameter list announces. A parameter that cannot be read is as if absent, and then the default of DDS
     /// counts.
     pub(crate) fn of(list: &ParamList<'a>) -> Policies<'a>
-        ensures { policies_value result ≡ policies_in (fields_value list.now) }
+        ensures { policies.policies_value result ≡ policies.policies_in (fields.fields_value list.now) }
     {
         Policies {
             deadline: deadline_in(list),
@@ -65,7 +64,7 @@ impl<'a> Policies<'a> {
 }
 
 fn deadline_in(list: &ParamList<'_>) -> Duration
-    ensures { result ≡ policies.deadline_in (fields_value list.now) }
+    ensures { result ≡ policies.deadline_in (fields.fields_value list.now) }
 {
     let Some(value) = list.first(pid::DEADLINE) else {
         return Duration::INFINITE;
@@ -74,7 +73,7 @@ fn deadline_in(list: &ParamList<'_>) -> Duration
 }
 
 fn latency_budget_in(list: &ParamList<'_>) -> Duration
-    ensures { result ≡ policies.latency_budget_in (fields_value list.now) }
+    ensures { result ≡ policies.latency_budget_in (fields.fields_value list.now) }
 {
     let Some(value) = list.first(pid::LATENCY_BUDGET) else {
         return Duration::ZERO;
@@ -83,7 +82,7 @@ fn latency_budget_in(list: &ParamList<'_>) -> Duration
 }
 
 fn liveliness_in(list: &ParamList<'_>) -> Liveliness
-    ensures { result ≡ policies.liveliness_in (fields_value list.now) }
+    ensures { result ≡ policies.liveliness_in (fields.fields_value list.now) }
 {
     let Some(value) = list.first(pid::LIVELINESS) else {
         return Liveliness::UNANNOUNCED;
@@ -92,7 +91,7 @@ fn liveliness_in(list: &ParamList<'_>) -> Liveliness
 }
 
 fn ownership_in(list: &ParamList<'_>) -> Ownership
-    ensures { result ≡ policies.ownership_in (fields_value list.now) }
+    ensures { result ≡ policies.ownership_in (fields.fields_value list.now) }
 {
     let Some(value) = list.first(pid::OWNERSHIP) else {
         return Ownership::Shared;
@@ -101,7 +100,7 @@ fn ownership_in(list: &ParamList<'_>) -> Ownership
 }
 
 fn destination_order_in(list: &ParamList<'_>) -> DestinationOrder
-    ensures { result ≡ policies.destination_order_in (fields_value list.now) }
+    ensures { result ≡ policies.destination_order_in (fields.fields_value list.now) }
 {
     let Some(value) = list.first(pid::DESTINATION_ORDER) else {
         return DestinationOrder::ByReception;
@@ -110,7 +109,7 @@ fn destination_order_in(list: &ParamList<'_>) -> DestinationOrder
 }
 
 fn presentation_in(list: &ParamList<'_>) -> Presentation
-    ensures { result ≡ policies.presentation_in (fields_value list.now) }
+    ensures { result ≡ policies.presentation_in (fields.fields_value list.now) }
 {
     let Some(value) = list.first(pid::PRESENTATION) else {
         return Presentation::UNANNOUNCED;
@@ -119,7 +118,7 @@ fn presentation_in(list: &ParamList<'_>) -> Presentation
 }
 
 fn partition_in<'a>(list: &ParamList<'a>) -> Partition<'a>
-    ensures { partition_value result ≡ policies.partition_in (fields_value list.now) }
+    ensures { views.partition_value result ≡ policies.partition_in (fields.fields_value list.now) }
 {
     let Some(value) = list.first(pid::PARTITION) else {
         return Partition::UNNAMED;
@@ -128,7 +127,7 @@ fn partition_in<'a>(list: &ParamList<'a>) -> Partition<'a>
 }
 
 fn representations_in<'a>(list: &ParamList<'a>) -> Representations<'a>
-    ensures { representations_value result ≡ policies.representations_in (fields_value list.now) }
+    ensures { views.representations_value result ≡ policies.representations_in (fields.fields_value list.now) }
 {
     let Some(value) = list.first(pid::DATA_REPRESENTATION) else {
         return Representations::NONE;

@@ -1,6 +1,5 @@
 ghost use Rattle.std.specs.Prelude.{◌≡◌};
-ghost use Rattle.rtps_policies.specs.Fitting.{presentation_suits};
-ghost use Rattle.rtps_policies.specs.Kinds.{presentation_of, scope_of};
+ghost use Rattle.rtps_policies.specs.Fitting as fitting;
 ghost use Rattle.rtps_policies.specs.Kinds as kinds;
 
 use crate::layout::presentation;
@@ -35,7 +34,7 @@ impl Presentation {
 
     /// The presentation in a value, or None if it is cut, its scope is unknown, or a flag is neither 0 nor 1.
     pub(crate) fn read(value: &[u8], order: Order) -> Option<Presentation>
-        ensures { result ≡ presentation_of order value.now }
+        ensures { result ≡ kinds.presentation_of order value.now }
     {
         let scope = scope_in(value, order)?;
         let coherent = flag_at(value, presentation::COHERENT)?;
@@ -49,7 +48,7 @@ impl Presentation {
 
     /// Whether it suits what is requested: it reaches as far, and has the flags that are requested.
     pub(crate) fn suits(self, requested: Presentation) -> bool
-        ensures { result ≡ presentation_suits self requested }
+        ensures { result ≡ fitting.presentation_suits self requested }
     {
         self.scope >= requested.scope
             && (!requested.coherent || self.coherent)
@@ -59,7 +58,7 @@ impl Presentation {
 
 /// The scope at the beginning of a value.
 fn scope_in(value: &[u8], order: Order) -> Option<AccessScope>
-    ensures { result ≡ scope_of order value.now }
+    ensures { result ≡ kinds.scope_of order value.now }
 {
     match read_u32(value, order) {
         Some(presentation::INSTANCE) => Some(AccessScope::Instance),

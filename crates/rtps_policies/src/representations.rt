@@ -1,8 +1,8 @@
 ghost use Rattle.std.specs.Prelude.{◌≡◌, ◌==◌, length};
 ghost use Rattle.std.specs.List.{list_any};
 ghost use Rattle.std.specs.Option.{option_map};
-ghost use Rattle.rtps_policies.specs.Sequences.{representations_of};
-ghost use Rattle.rtps_policies.specs.Views.{accepted_in, first_in, representations_value};
+ghost use Rattle.rtps_policies.specs.Sequences as sequences;
+ghost use Rattle.rtps_policies.specs.Views as views;
 
 use crate::layout::representation::XCDR1;
 use crate::layout::sequence::{COUNT_SIZE, ID_SIZE};
@@ -27,7 +27,7 @@ impl<'a> Representations<'a> {
 
     /// The ids in a value, or None if it is cut.
     pub(crate) fn read(value: &'a [u8], order: Order) -> Option<Representations<'a>>
-        ensures { option_map representations_value result ≡ representations_of order value.now }
+        ensures { option_map views.representations_value result ≡ sequences.representations_of order value.now }
     {
         let count = read_u32(value, order)? as usize;
         let octets = value[COUNT_SIZE..].get(..ID_SIZE * count)?;
@@ -36,14 +36,14 @@ impl<'a> Representations<'a> {
 
     /// What a writer sends: the first of them, or XCDR1 if there is none.
     pub fn sent(&self) -> u16
-        ensures { result ≡ first_in (representations_value self.now) }
+        ensures { result ≡ views.first_in (views.representations_value self.now) }
     {
         u16_at(self.order, self.octets, 0).unwrap_or(XCDR1)
     }
 
     /// Whether a reader takes a representation: it is among them, or it is XCDR1 and there is none.
     pub fn accept(&self, id: u16) -> bool
-        ensures { result ≡ list_any (λ own. own == id) (accepted_in (representations_value self.now)) }
+        ensures { result ≡ list_any (λ own. own == id) (views.accepted_in (views.representations_value self.now)) }
     {
         if self.octets.len() < ID_SIZE {
             return id == XCDR1;
@@ -53,14 +53,14 @@ impl<'a> Representations<'a> {
 
     /// Whether none is announced.
     pub fn is_empty(&self) -> bool
-        ensures { result ≡ (length (representations_value self.now) == 0) }
+        ensures { result ≡ (length (views.representations_value self.now) == 0) }
     {
         self.octets.len() < ID_SIZE
     }
 
     /// The ids, in the order in which they are announced.
     pub fn ids(&self) -> Ids<'a>
-        ensures { result ≡ representations_value self.now }
+        ensures { result ≡ views.representations_value self.now }
     {
         Ids {
             rest: self.octets,
@@ -70,7 +70,7 @@ impl<'a> Representations<'a> {
 
     /// Whether an id is among them.
     fn has(&self, id: u16) -> bool
-        ensures { result ≡ list_any (λ own. own == id) (representations_value self.now) }
+        ensures { result ≡ list_any (λ own. own == id) (views.representations_value self.now) }
     {
         for own in self.ids() {
             if own == id {
@@ -90,11 +90,11 @@ pub struct Ids<'a> {
 
 impl<'a> Model for Ids<'a> {
     ghost use Rattle.std.specs.Prelude.{ℕ, List};
-    ghost use Rattle.rtps_policies.specs.Sequences.{ids_in};
+    ghost use Rattle.rtps_policies.specs.Sequences as sequences;
 
     ghost Value = { List ℕ };
 
-    ghost view = { λ ids. ids_in ids.order ids.rest.now };
+    ghost view = { λ ids. sequences.ids_in ids.order ids.rest.now };
 }
 
 impl<'a> Iterator for Ids<'a> {

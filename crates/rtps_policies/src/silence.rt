@@ -1,7 +1,6 @@
 ghost use Rattle.std.specs.Prelude.{◌≡◌};
-ghost use Rattle.rtps_policies.specs.Announcing.{IsAnnouncedBy};
-ghost use Rattle.rtps_policies.specs.Namings.{AreNamingsOf};
-ghost use Rattle.rtps_policies.specs.Silence.{Traffic, one_way_by, silence_by, silence_of};
+ghost use Rattle.rtps_policies.specs.Announcing as announcing;
+ghost use Rattle.rtps_policies.specs.Namings as namings_spec;
 ghost use Rattle.rtps_policies.specs.Silence as silence;
 
 use crate::announced::Announced;
@@ -44,7 +43,7 @@ pub fn two_addresses(one: Host, other: Host) -> bool
 
 /// Whether one participant names another, which never names it, and they are on two hosts but not in two domains.
 fn is_one_way(named: u64, answered: u64, one: Host, other: Host) -> bool
-    ensures { result ≡ one_way_by named answered one other }
+    ensures { result ≡ silence.one_way_by named answered one other }
 {
     named > 0 && answered == 0 && two_addresses(one, other) && !two_domains(one, other)
 }
@@ -53,7 +52,7 @@ fn is_one_way(named: u64, answered: u64, one: Host, other: Host) -> bool
 /// round.
 pub fn talks_one_way(announced: &Announced<'_>, namings: &Namings, naming: Naming) -> bool
     ensures kept { result ≡ silence.talks_one_way announced.now namings.now naming }
-    ensures recorded { (traffic : Traffic) → IsAnnouncedBy traffic.announcing announced.now → AreNamingsOf traffic.datagrams namings.now
+    ensures recorded { (traffic : silence.Traffic) → announcing.IsAnnouncedBy traffic.announcing announced.now → namings_spec.AreNamingsOf traffic.datagrams namings.now
         → result ≡ silence.is_one_way traffic naming }
 {
     let count = namings.named(naming);
@@ -80,9 +79,9 @@ fn first_reason(one_participant: bool, in_two_domains: bool, one_way: bool) -> S
 
 /// Why a recording says nothing of a pair whose reader's participant never names the writer's: the first reason that fits.
 pub fn reason_of_silence(announced: &Announced<'_>, namings: &Namings, pair: Pair) -> Silence
-    ensures kept { result ≡ silence_by announced.now namings.now pair }
-    ensures recorded { (traffic : Traffic) → IsAnnouncedBy traffic.announcing announced.now → AreNamingsOf traffic.datagrams namings.now
-        → result ≡ silence_of traffic pair }
+    ensures kept { result ≡ silence.silence_by announced.now namings.now pair }
+    ensures recorded { (traffic : silence.Traffic) → announcing.IsAnnouncedBy traffic.announcing announced.now → namings_spec.AreNamingsOf traffic.datagrams namings.now
+        → result ≡ silence.silence_of traffic pair }
 {
     let source = pair.writer.prefix;
     let dest = pair.reader.prefix;

@@ -1,5 +1,4 @@
 ghost use Rattle.std.specs.Prelude.{◌≡◌, IfOk, filter};
-ghost use Rattle.rtps_policies.specs.TopicReaders.{AreByTopic, KeepsTopics, has_topic};
 ghost use Rattle.rtps_policies.specs.TopicReaders as topic_readers;
 
 use crate::fitting::Profile;
@@ -12,8 +11,8 @@ pub(crate) fn readers_by_topic<'a>(
     alloc: Global,
     profiles: &[Profile<'a>],
 ) -> Result<Vec<Profile<'a>>, Memory>
-    ensures sorted { IfOk result (λ readers. AreByTopic readers.items) }
-    ensures stable { IfOk result (λ readers. KeepsTopics (topic_readers.readers_among profiles.now) readers.items) }
+    ensures sorted { IfOk result (λ readers. topic_readers.AreByTopic readers.items) }
+    ensures stable { IfOk result (λ readers. topic_readers.KeepsTopics (topic_readers.readers_among profiles.now) readers.items) }
 {
     let mut readers = readers_among(alloc, profiles)?;
     readers.sort_by_key(|reader| reader.endpoint.topic)?;
@@ -35,8 +34,8 @@ fn readers_among<'a>(alloc: Global, profiles: &[Profile<'a>]) -> Result<Vec<Prof
 
 /// The readers of a topic, among readers that are sorted by topic.
 pub(crate) fn readers_of<'r, 'a>(readers: &'r [Profile<'a>], topic: &[u8]) -> &'r [Profile<'a>]
-    requires { AreByTopic readers.now }
-    ensures { result.now ≡ filter (has_topic topic.now) readers.now }
+    requires { topic_readers.AreByTopic readers.now }
+    ensures { result.now ≡ filter (topic_readers.has_topic topic.now) readers.now }
 {
     let start = readers.partition_point(|reader| reader.endpoint.topic.cmp(&topic).is_lt());
     let behind = &readers[start..];

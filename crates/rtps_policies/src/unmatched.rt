@@ -1,10 +1,9 @@
 ghost use Rattle.std.specs.Prelude.{◌≡◌, ◌++◌, IfOk, List, OnOk, map};
 ghost use Rattle.std.specs.Option.{option_map};
-ghost use Rattle.rtps_receiver.specs.Values.{ActValue};
-ghost use Rattle.rtps_discovery.specs.Directory.{settled_in};
-ghost use Rattle.rtps_policies.specs.Announcing.{IsAnnouncedBy};
-ghost use Rattle.rtps_policies.specs.Fitting.{profile_value};
-ghost use Rattle.rtps_policies.specs.Unmatched.{unmatched_among, unmatched_value, unmatched_with};
+ghost use Rattle.rtps_receiver.specs.Values as values;
+ghost use Rattle.rtps_discovery.specs.Directory as directory_spec;
+ghost use Rattle.rtps_policies.specs.Announcing as announcing;
+ghost use Rattle.rtps_policies.specs.Fitting as fitting;
 ghost use Rattle.rtps_policies.specs.Unmatched as unmatched;
 
 use crate::announced::Announced;
@@ -30,8 +29,8 @@ pub fn unmatched_pairs<'a>(
     announced: &Announced<'a>,
     directory: &Directory<'a>,
 ) -> Result<Vec<Unmatched<'a>>, Memory>
-    ensures { IfOk result (λ found. (acts : List ActValue) → IsAnnouncedBy acts announced.now
-        → map unmatched_value found.items ≡ unmatched_among acts (settled_in directory.now.endpoints)) }
+    ensures { IfOk result (λ found. (acts : List values.ActValue) → announcing.IsAnnouncedBy acts announced.now
+        → map unmatched.unmatched_value found.items ≡ unmatched.unmatched_among acts (directory_spec.settled_in directory.now.endpoints)) }
 {
     let profiles = announced.profiles(&directory.endpoints()?)?;
     unmatched_in(announced.alloc, &profiles)
@@ -39,7 +38,7 @@ pub fn unmatched_pairs<'a>(
 
 /// Those among profiles, writer by writer. A writer is compared only with the readers of its topic.
 fn unmatched_in<'a>(alloc: Global, profiles: &[Profile<'a>]) -> Result<Vec<Unmatched<'a>>, Memory>
-    ensures { IfOk result (λ found. map unmatched_value found.items ≡ unmatched.unmatched_in (map profile_value profiles.now)) }
+    ensures { IfOk result (λ found. map unmatched.unmatched_value found.items ≡ unmatched.unmatched_in (map fitting.profile_value profiles.now)) }
 {
     let readers = readers_by_topic(alloc, profiles)?;
     let mut found = Vec::new(alloc);
@@ -59,8 +58,8 @@ fn push_unmatched<'a>(
     writer: &Profile<'a>,
     readers: &[Profile<'a>],
 ) -> Result<(), Memory>
-    ensures { OnOk result (map unmatched_value found.new.items
-        ≡ map unmatched_value found.old.items ++ unmatched_with (profile_value writer.now) (map profile_value readers.now)) }
+    ensures { OnOk result (map unmatched.unmatched_value found.new.items
+        ≡ map unmatched.unmatched_value found.old.items ++ unmatched.unmatched_with (fitting.profile_value writer.now) (map fitting.profile_value readers.now)) }
 {
     for reader in readers {
         match unmatched_of(alloc, writer, reader)? {
@@ -77,7 +76,7 @@ fn unmatched_of<'a>(
     writer: &Profile<'a>,
     reader: &Profile<'a>,
 ) -> Result<Option<Unmatched<'a>>, Memory>
-    ensures { IfOk result (λ found. option_map unmatched_value found ≡ unmatched.unmatched_of (profile_value writer.now) (profile_value reader.now)) }
+    ensures { IfOk result (λ found. option_map unmatched.unmatched_value found ≡ unmatched.unmatched_of (fitting.profile_value writer.now) (fitting.profile_value reader.now)) }
 {
     if !may_match(writer, reader) {
         return Ok(None);
@@ -96,7 +95,7 @@ fn unmatched_of<'a>(
 
 /// Whether they are a writer and a reader of one topic that are not in two domains.
 fn may_match(writer: &Profile<'_>, reader: &Profile<'_>) -> bool
-    ensures { result ≡ unmatched.may_match (profile_value writer.now) (profile_value reader.now) }
+    ensures { result ≡ unmatched.may_match (fitting.profile_value writer.now) (fitting.profile_value reader.now) }
 {
     writer.endpoint.side == Side::Writer
         && reader.endpoint.side == Side::Reader

@@ -1,5 +1,5 @@
 ghost use Rattle.std.specs.Prelude.{◌≡◌};
-ghost use Rattle.rtps_discovery.specs.Fields.{fields_value};
+ghost use Rattle.rtps_discovery.specs.Fields as fields;
 ghost use Rattle.rtps_policies.specs.Vendors as vendors;
 
 use crate::layout::{pid, vendor};
@@ -17,7 +17,7 @@ fn is_fast(value: &[u8]) -> bool
 
 /// Whether a list says that its participant is of Fast DDS.
 pub(crate) fn is_of_fast(list: &ParamList<'_>) -> bool
-    ensures { result ≡ vendors.is_of_fast (fields_value list.now) }
+    ensures { result ≡ vendors.is_of_fast (fields.fields_value list.now) }
 {
     match list.first(pid::VENDOR_ID) {
         Some(value) => is_fast(value),

@@ -5,19 +5,19 @@ use Rattle.std.proofs.lemmas.Bool.{cases_lt}
 use Rattle.std.specs.Option.{option_map}
 use Rattle.std.specs.Prelude.{MatchOption}
 use Rattle.std.specs.declared.ops.Range.{Range}
-use Rattle.rtps_ids.specs.NumberSet.{NumberSetValue, is_member}
-use Rattle.rtps_ids.specs.Ranges.{IsRangeFrom, HasNoneFrom}
+use Rattle.rtps_ids.specs.NumberSet as number_set
+use Rattle.rtps_ids.specs.Ranges as ranges
 use Rattle.rtps_ids.proofs.Offered.{member_decides, not_member}
-use Rattle.rtps_receiver.specs.Said.{IsRangeOf, numbers_have}
+use Rattle.rtps_receiver.specs.Said as said
 use Rattle.rtps_receiver.specs.declared.said.Numbers.{Numbers}
 
 -- ---- a range of the list, from a number on that the others do not reach
 
-module _ (numbers : Numbers) (list : NumberSetValue) (at : ℕ) (is : option_map (λ list. list.now) numbers.list ≡ Some list) (past : numbers.end ≤ max at numbers.start) where
-  as_listed : (n : ℕ) → at ≤ n → numbers_have numbers n ≡ is_member list n
+module _ (numbers : Numbers) (list : number_set.NumberSetValue) (at : ℕ) (is : option_map (λ list. list.now) numbers.list ≡ Some list) (past : numbers.end ≤ max at numbers.start) where
+  as_listed : (n : ℕ) → at ≤ n → said.numbers_have numbers n ≡ number_set.is_member list n
   as_listed n le = let out : (nat_le numbers.start n && nat_lt n numbers.end) ≡ false = grind (arith, nat_tests, past) in rw (is, out) refl
 
-  range_listed : (lo hi : ℕ) → IsRangeFrom list at lo hi → IsRangeOf numbers at lo hi
+  range_listed : (lo hi : ℕ) → ranges.IsRangeFrom list at lo hi → said.IsRangeOf numbers at lo hi
   range_listed lo hi range =
       let onward = range.onward in
       let some = range.some in
@@ -29,8 +29,8 @@ module _ (numbers : Numbers) (list : NumberSetValue) (at : ℕ) (is : option_map
         past = inr (as_listed hi (omega arith) ∙ not_member list hi range.past);
       }
 
-  pub first_listed : (found : Option (Range ℕ)) → MatchOption found (HasNoneFrom list at) (λ range. IsRangeFrom list at range.start range.end)
-      → MatchOption found ((n : ℕ) → at ≤ n → numbers_have numbers n ≡ false) (λ range. IsRangeOf numbers at range.start range.end)
+  pub first_listed : (found : Option (Range ℕ)) → MatchOption found (ranges.HasNoneFrom list at) (λ range. ranges.IsRangeFrom list at range.start range.end)
+      → MatchOption found ((n : ℕ) → at ≤ n → said.numbers_have numbers n ≡ false) (λ range. said.IsRangeOf numbers at range.start range.end)
   first_listed None none = λ n le. as_listed n le ∙ not_member list n (none n le)
   first_listed (Some range) is_range = range_listed range.start range.end is_range
 
@@ -44,7 +44,7 @@ pub none_below : (has : ℕ → Bool) (n : ℕ) → below has 0 n ≡ false
 none_below has n = let out : nat_lt n 0 ≡ false = grind (arith, nat_tests) in grind (arith, nat_tests)
 
 -- a range more
-pub range_more : (numbers : Numbers) (at lo hi : ℕ) → IsRangeOf numbers at lo hi → (n : ℕ) → below (numbers_have numbers) hi n ≡ (below (numbers_have numbers) at n || (nat_le lo n && nat_lt n hi))
+pub range_more : (numbers : Numbers) (at lo hi : ℕ) → said.IsRangeOf numbers at lo hi → (n : ℕ) → below (said.numbers_have numbers) hi n ≡ (below (said.numbers_have numbers) at n || (nat_le lo n && nat_lt n hi))
 range_more numbers at lo hi range n = let onward = range.onward in let some = range.some in elim (cases_lt n lo) [
   | inl lt ↦ elim (cases_lt n at) [
     | inl early ↦ grind (arith, nat_tests)

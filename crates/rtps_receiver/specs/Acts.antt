@@ -4,16 +4,14 @@ use Rattle.std.specs.Prelude.{ℕ, ◌≡◌, if◌then◌else◌, Bool, true, f
 use Rattle.rtps_ids.specs.declared.identity.GuidPrefix.{GuidPrefix}
 use Rattle.rtps_ids.specs.declared.identity.Stamp.{Stamp}
 use Rattle.rtps_ids.specs.declared.order.Order.{Order}
-use Rattle.rtps_wire.specs.Message.{Reading}
-use Rattle.rtps_wire.specs.Reading.{Unread, items_among, outcomes_left, reading_of, refusal_among}
-use Rattle.rtps_wire.specs.Values.{BodyValue, ItemValue}
-use Rattle.rtps_wire.specs.Values.BodyValue.{Data, Heartbeat, AckNack, Gap, InfoTs, InfoDst, InfoSrc}
+use Rattle.rtps_wire.specs.Message as message
+use Rattle.rtps_wire.specs.Reading as reading
+use Rattle.rtps_wire.specs.Values as wire_values
 use Rattle.rtps_wire.specs.declared.fault.Refusal.{Refusal}
 use Rattle.rtps_wire.specs.declared.header.Header.{Header}
-use Rattle.rtps_receiver.specs.Destination.{is_unknown}
+use Rattle.rtps_receiver.specs.Destination as destination
 use Rattle.rtps_receiver.specs.declared.state.State.{State}
-use Rattle.rtps_receiver.specs.Values.{ActBodyValue, ActValue}
-use Rattle.rtps_receiver.specs.Values.ActBodyValue.{Data as DataAct, Heartbeat as HeartbeatAct, AckNack as AckNackAct, Gap as GapAct}
+use Rattle.rtps_receiver.specs.Values as values
 
 -- the later of two values, or the earlier one if there is no later
 abbrev pub later : {X : Type 0} → Option X → Option X → Option X
@@ -21,25 +19,25 @@ later (Some x) earlier = Some x
 later None earlier = earlier
 
 -- what `says` gives for the last of these items for which it gives something
-abbrev pub last_said : {X : Type 0} → (BodyValue → Option X) → List ItemValue → Option X
+abbrev pub last_said : {X : Type 0} → (wire_values.BodyValue → Option X) → List wire_values.ItemValue → Option X
 last_said says [] = None
 last_said says (item ∷ items) = later (last_said says items) (says item.body)
 
 -- the source that an INFO_SRC gives: version, vendor and prefix (own: any version is taken)
-abbrev pub says_source : BodyValue → Option Header
-says_source (InfoSrc version vendor prefix) = Some (record { version = version; vendor = vendor; prefix = prefix })
+abbrev pub says_source : wire_values.BodyValue → Option Header
+says_source (wire_values.BodyValue.InfoSrc version vendor prefix) = Some (record { version = version; vendor = vendor; prefix = prefix })
 says_source _ = None
 
 -- the destination that an INFO_DST gives; a prefix of zeros is everyone
-abbrev pub says_destination : BodyValue → Option (Option GuidPrefix)
-says_destination (InfoDst prefix) = Some (if is_unknown prefix then None else Some prefix)
+abbrev pub says_destination : wire_values.BodyValue → Option (Option GuidPrefix)
+says_destination (wire_values.BodyValue.InfoDst prefix) = Some (if destination.is_unknown prefix then None else Some prefix)
 says_destination _ = None
 
 -- the time that an INFO_TS gives, or that there is none (own: after an INFO_SRC there is no time, since a time is that
 -- of its source; the destination stays)
-abbrev pub says_time : BodyValue → Option (Option Stamp)
-says_time (InfoTs time) = Some time
-says_time (InfoSrc version vendor prefix) = Some None
+abbrev pub says_time : wire_values.BodyValue → Option (Option Stamp)
+says_time (wire_values.BodyValue.InfoTs time) = Some time
+says_time (wire_values.BodyValue.InfoSrc version vendor prefix) = Some None
 says_time _ = None
 
 -- at the start of a message the source is the header's, the destination everyone, and there is no time
@@ -48,7 +46,7 @@ state_at_start header = record { source = header; dest = None; stamp = None }
 
 -- the receiver's state after these items: what the last of them gives, or what it was at the start if none gives
 -- anything
-abbrev pub state_behind : State → List ItemValue → State
+abbrev pub state_behind : State → List wire_values.ItemValue → State
 state_behind start items =
     record {
       source = unwrap_or (last_said says_source items) start.source;
@@ -57,15 +55,15 @@ state_behind start items =
     }
 
 -- the items that are acts
-abbrev pub act_body : BodyValue → Option ActBodyValue
-act_body (Data value) = Some (DataAct value)
-act_body (Heartbeat value) = Some (HeartbeatAct value)
-act_body (AckNack value) = Some (AckNackAct value)
-act_body (Gap value) = Some (GapAct value)
+abbrev pub act_body : wire_values.BodyValue → Option values.ActBodyValue
+act_body (wire_values.BodyValue.Data value) = Some (values.ActBodyValue.Data value)
+act_body (wire_values.BodyValue.Heartbeat value) = Some (values.ActBodyValue.Heartbeat value)
+act_body (wire_values.BodyValue.AckNack value) = Some (values.ActBodyValue.AckNack value)
+act_body (wire_values.BodyValue.Gap value) = Some (values.ActBodyValue.Gap value)
 act_body _ = None
 
 -- the act with this body in this state
-abbrev pub act_at : State → ℕ → Order → ActBodyValue → ActValue
+abbrev pub act_at : State → ℕ → Order → values.ActBodyValue → values.ActValue
 act_at state at order body =
     record {
       at = at;
@@ -79,60 +77,60 @@ act_at state at order body =
     }
 
 -- an act that is this item in this state
-abbrev pub IsActIn : State → ItemValue → ActValue → Type 0
-IsActIn state item act = (body : ActBodyValue) × (act_body item.body ≡ Some body) × (act ≡ act_at state item.at item.order body)
+abbrev pub IsActIn : State → wire_values.ItemValue → values.ActValue → Type 0
+IsActIn state item act = (body : values.ActBodyValue) × (act_body item.body ≡ Some body) × (act ≡ act_at state item.at item.order body)
 
 -- the act that an item is, if it is one
-abbrev pub acts_of_item : State → ItemValue → Option ActBodyValue → List ActValue
+abbrev pub acts_of_item : State → wire_values.ItemValue → Option values.ActBodyValue → List values.ActValue
 acts_of_item state item (Some body) = act_at state item.at item.order body ∷ []
 acts_of_item state item None = []
 
 -- what `gives` makes of each item in the state after all items before it, one after another
-abbrev pub gathered : {X : Type 0} → (State → ItemValue → List X) → State → List ItemValue → List ItemValue → List X
+abbrev pub gathered : {X : Type 0} → (State → wire_values.ItemValue → List X) → State → List wire_values.ItemValue → List wire_values.ItemValue → List X
 gathered gives start before [] = []
 gathered gives start before (item ∷ items) = gives (state_behind start before) item ++ gathered gives start (before ++ item ∷ []) items
 
 -- the acts among items, each in the state after all items before it
-abbrev pub acts_behind : State → List ItemValue → List ItemValue → List ActValue
+abbrev pub acts_behind : State → List wire_values.ItemValue → List wire_values.ItemValue → List values.ActValue
 acts_behind start before items = gathered (λ state item. acts_of_item state item (act_body item.body)) start before items
 
 -- the acts of a reading; one without a header has none
-abbrev pub acts_with : Option Header → List ItemValue → List ActValue
+abbrev pub acts_with : Option Header → List wire_values.ItemValue → List values.ActValue
 acts_with None items = []
 acts_with (Some header) items = acts_behind (state_at_start header) [] items
 
 -- the acts of a datagram, in order
-unfoldable pub acts_of : Reading → List ActValue
+unfoldable pub acts_of : message.Reading → List values.ActValue
 acts_of reading = acts_with reading.header reading.items
 
 -- the acts of a recording, which is the octets of its datagrams in the order of sending
-abbrev pub acts_in : List (List ℕ) → List ActValue
-acts_in recording = flat_map (λ datagram. acts_of (reading_of datagram)) recording
+abbrev pub acts_in : List (List ℕ) → List values.ActValue
+acts_in recording = flat_map (λ datagram. acts_of (reading.reading_of datagram)) recording
 
 -- the act is a DATA
-abbrev pub is_data : ActBodyValue → Bool
-is_data (DataAct value) = true
+abbrev pub is_data : values.ActBodyValue → Bool
+is_data (values.ActBodyValue.Data value) = true
 is_data _ = false
 
 -- the DATA among acts
-abbrev pub data_among : List ActValue → List ActValue
+abbrev pub data_among : List values.ActValue → List values.ActValue
 data_among acts = filter (λ act. is_data act.body) acts
 
 -- the unread part of a message, and the receiver's state before it
 pub record Awaited : Type 0 where
   pub state : State
-  pub unread : Unread
+  pub unread : reading.Unread
 
 -- an act, or the refusal that ends the message
 abbrev pub ActOutcome : Type 0
-ActOutcome = Result ActValue Refusal
+ActOutcome = Result values.ActValue Refusal
 
 -- acts, and then the refusal if there is one
-abbrev pub acts_then : List ActValue → Option Refusal → List ActOutcome
+abbrev pub acts_then : List values.ActValue → Option Refusal → List ActOutcome
 acts_then acts ending = map Ok acts ++ map Err (option_to_list ending)
 
 -- the acts among what is read of a message
-abbrev pub acts_among : List ActOutcome → List ActValue
+abbrev pub acts_among : List ActOutcome → List values.ActValue
 acts_among [] = []
 acts_among (Ok act ∷ rest) = act ∷ acts_among rest
 acts_among (Err refusal ∷ rest) = acts_among rest
@@ -140,4 +138,4 @@ acts_among (Err refusal ∷ rest) = acts_among rest
 -- the acts of the unread items from the state on, and the refusal
 unfoldable pub acts_left : Awaited → List ActOutcome
 acts_left awaited =
-    acts_then (acts_behind awaited.state [] (items_among (outcomes_left awaited.unread))) (refusal_among (outcomes_left awaited.unread))
+    acts_then (acts_behind awaited.state [] (reading.items_among (reading.outcomes_left awaited.unread))) (reading.refusal_among (reading.outcomes_left awaited.unread))

@@ -7,8 +7,8 @@ use Rattle.std.specs.Ordering.{nat_cmp, ordering_then}
 use Rattle.std.specs.declared.cmp.Ordering.{Ordering}
 use Rattle.rtps_ids.specs.declared.identity.EntityId.{EntityId}
 use Rattle.rtps_ids.specs.declared.identity.GuidPrefix.{GuidPrefix}
-use Rattle.rtps_receiver.specs.Speech.{reader_named}
-use Rattle.rtps_receiver.specs.Values.{ActValue}
+use Rattle.rtps_receiver.specs.Speech as speech
+use Rattle.rtps_receiver.specs.Values as values
 use Rattle.rtps_receiver.specs.declared.speech.Audience.{Audience}
 
 -- the order of two audiences: by destination, everyone first, and then by reader
@@ -21,5 +21,5 @@ audience_at dest (Some reader) = Some (record { dest = dest; reader = reader })
 audience_at dest None = None
 
 -- the readers that an act of a writer is sent to; an ACKNACK and a NACK_FRAG have none
-abbrev pub audience_of : ActValue → Option Audience
-audience_of act = audience_at act.dest (reader_named act.body)
+abbrev pub audience_of : values.ActValue → Option Audience
+audience_of act = audience_at act.dest (speech.reader_named act.body)

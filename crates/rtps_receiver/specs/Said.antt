@@ -3,11 +3,10 @@
 -- 8.3.8.12 "NackFrag".
 use Rattle.std.specs.Prelude.{ℕ, ℤ, pos, negsuc, Bool, true, false, ◌≡◌, ◌==◌, ◌≤◌, ◌<◌, ◌⊎◌, ◌&&◌, ◌||◌, nat_le, nat_lt, if◌then◌else◌, is_some, unwrap_or, Option, Some, None}
 use Rattle.std.specs.Option.{option_map}
-use Rattle.rtps_ids.specs.NumberSet.{NumberSetValue, is_member}
-use Rattle.rtps_wire.specs.Values.{PayloadValue, payload_value}
+use Rattle.rtps_ids.specs.NumberSet as number_set
+use Rattle.rtps_wire.specs.Values as wire_values
 use Rattle.rtps_wire.specs.declared.body.GapBody.{GapBody}
-use Rattle.rtps_receiver.specs.Values.{ActBodyValue}
-use Rattle.rtps_receiver.specs.Values.ActBodyValue.{Data, Heartbeat, AckNack, Gap, DataFrag, NackFrag}
+use Rattle.rtps_receiver.specs.Values as values
 use Rattle.rtps_receiver.specs.declared.said.Numbers.{Numbers}
 use Rattle.rtps_receiver.specs.declared.said.SaidNumbers.{SaidNumbers}
 
@@ -18,7 +17,7 @@ natural (negsuc n) = 0
 
 -- a GAP says that the numbers from its start on and below the base of its list will not come, nor those of the list
 abbrev pub is_in_gap : GapBody → ℕ → Bool
-is_in_gap gap n = (nat_le gap.start n && nat_lt n gap.list.base) || is_member gap.list n
+is_in_gap gap n = (nat_le gap.start n && nat_lt n gap.list.base) || number_set.is_member gap.list n
 
 -- what is said of numbers
 pub record SaidValue : Type 0 where
@@ -29,7 +28,7 @@ pub record SaidValue : Type 0 where
   -- the number of which there is a payload, or fragments of one
   pub brought : Option ℕ
   -- the payload of that number, where it is told
-  pub payload : Option PayloadValue
+  pub payload : Option wire_values.PayloadValue
   -- the number that is announced
   pub announced : Option ℕ
 
@@ -39,13 +38,13 @@ nothing = record { gone = λ n. false; lacked = λ n. false; brought = None; pay
 
 -- What an act says. A HEARTBEAT says that the numbers below its first will not come, and announces its last, which may still
 -- come. A DATA_FRAG says what its sample is, where that was put together. An ACKNACK lacks the numbers of its set.
-abbrev pub said : ActBodyValue → SaidValue
-said (Data value) = record nothing { brought = Some value.number; payload = Some value.payload; announced = Some value.number }
-said (Heartbeat value) = record nothing { gone = λ n. nat_lt n value.first; announced = Some (natural value.last) }
-said (Gap value) = record nothing { gone = is_in_gap value }
-said (DataFrag value) = record nothing { brought = Some value.number; payload = value.told; announced = Some value.number }
-said (AckNack value) = record nothing { lacked = is_member value.set }
-said (NackFrag value) = record nothing { lacked = λ n. value.number == n }
+abbrev pub said : values.ActBodyValue → SaidValue
+said (values.ActBodyValue.Data value) = record nothing { brought = Some value.number; payload = Some value.payload; announced = Some value.number }
+said (values.ActBodyValue.Heartbeat value) = record nothing { gone = λ n. nat_lt n value.first; announced = Some (natural value.last) }
+said (values.ActBodyValue.Gap value) = record nothing { gone = is_in_gap value }
+said (values.ActBodyValue.DataFrag value) = record nothing { brought = Some value.number; payload = value.told; announced = Some value.number }
+said (values.ActBodyValue.AckNack value) = record nothing { lacked = number_set.is_member value.set }
+said (values.ActBodyValue.NackFrag value) = record nothing { lacked = λ n. value.number == n }
 
 -- the number whose payload is told
 abbrev pub told_of : SaidValue → Option ℕ
@@ -57,9 +56,9 @@ is_at n None = false
 is_at n (Some number) = number == n
 
 -- a list that is there has the number
-abbrev pub is_listed : Option NumberSetValue → ℕ → Bool
+abbrev pub is_listed : Option number_set.NumberSetValue → ℕ → Bool
 is_listed None n = false
-is_listed (Some list) n = is_member list n
+is_listed (Some list) n = number_set.is_member list n
 
 -- the numbers that the code keeps
 abbrev pub numbers_have : Numbers → ℕ → Bool
@@ -79,5 +78,5 @@ pub record Says (value : SaidValue) (numbers : SaidNumbers) : Type 0 where
   pub lacked : (n : ℕ) → numbers_have numbers.lacked n ≡ value.lacked n
   pub brought : numbers.brought ≡ value.brought
   pub told : numbers.told ≡ told_of value
-  pub payload : option_map (λ payload. payload_value payload.now) numbers.payload ≡ value.payload
+  pub payload : option_map (λ payload. wire_values.payload_value payload.now) numbers.payload ≡ value.payload
   pub announced : numbers.announced ≡ unwrap_or value.announced 0

@@ -8,7 +8,7 @@ use Rattle.rtps_ids.specs.declared.identity.Stamp.{Stamp}
 use Rattle.rtps_ids.specs.declared.identity.Vendor.{Vendor}
 use Rattle.rtps_ids.specs.declared.identity.Version.{Version}
 use Rattle.rtps_ids.specs.declared.order.Order.{Order}
-use Rattle.rtps_wire.specs.Values.{DataValue, PayloadValue, data_value, payload_value}
+use Rattle.rtps_wire.specs.Values as values
 use Rattle.rtps_wire.specs.declared.body.AckNackBody.{AckNackBody}
 use Rattle.rtps_wire.specs.declared.body.GapBody.{GapBody}
 use Rattle.rtps_wire.specs.declared.body.HeartbeatBody.{HeartbeatBody}
@@ -17,12 +17,10 @@ use Rattle.rtps_wire.specs.declared.fault.Refusal.{Refusal}
 use Rattle.rtps_wire.specs.declared.nack_frag.NackFrag.{NackFrag as NackFragBody}
 use Rattle.rtps_receiver.specs.declared.act.Act.{Act}
 use Rattle.rtps_receiver.specs.declared.act.ActBody.{ActBody}
-use Rattle.rtps_receiver.specs.declared.act.ActBody.TheVariants as body
 use Rattle.rtps_receiver.specs.declared.spoken.FragmentBody.{FragmentBody}
 use Rattle.rtps_receiver.specs.declared.spoken.SentPart.{SentPart}
 use Rattle.rtps_receiver.specs.declared.spoken.Spoken.{Spoken}
 use Rattle.rtps_receiver.specs.declared.spoken.SpokenBody.{SpokenBody}
-use Rattle.rtps_receiver.specs.declared.spoken.SpokenBody.TheVariants as spoken
 
 -- the fragments that a DATA_FRAG sends, from the first one on
 pub record SentPartValue : Type 0 where
@@ -36,11 +34,11 @@ pub record FragmentValue : Type 0 where
   pub writer : EntityId
   pub number : ℕ
   pub sent : Option SentPartValue
-  pub told : Option PayloadValue
+  pub told : Option values.PayloadValue
 
 -- what an act says
 pub data ActBodyValue : Type 0 where
-  Data : (value : DataValue) → ActBodyValue
+  Data : (value : values.DataValue) → ActBodyValue
   Heartbeat : (value : HeartbeatBody) → ActBodyValue
   AckNack : (value : AckNackBody) → ActBodyValue
   Gap : (value : GapBody) → ActBodyValue
@@ -70,21 +68,21 @@ fragment_value value =
       writer = value.writer;
       number = value.number;
       sent = option_map sent_part_value value.sent;
-      told = option_map payload_value value.told;
+      told = option_map values.payload_value value.told;
     }
 
 -- what an act of the code says, as a value
 abbrev pub act_body_value : ActBody → ActBodyValue
-act_body_value (body.Data value) = Data (data_value value)
-act_body_value (body.Heartbeat value) = Heartbeat value
-act_body_value (body.AckNack value) = AckNack value
-act_body_value (body.Gap value) = Gap value
+act_body_value (ActBody.Data value) = Data (values.data_value value)
+act_body_value (ActBody.Heartbeat value) = Heartbeat value
+act_body_value (ActBody.AckNack value) = AckNack value
+act_body_value (ActBody.Gap value) = Gap value
 
 -- what a walk of the code hands on, as a value
 abbrev pub spoken_body_value : SpokenBody → ActBodyValue
-spoken_body_value (spoken.Act value) = act_body_value value
-spoken_body_value (spoken.DataFrag value) = DataFrag (fragment_value value)
-spoken_body_value (spoken.NackFrag value) = NackFrag value
+spoken_body_value (SpokenBody.Act value) = act_body_value value
+spoken_body_value (SpokenBody.DataFrag value) = DataFrag (fragment_value value)
+spoken_body_value (SpokenBody.NackFrag value) = NackFrag value
 
 -- what an act of the code stands for
 abbrev pub act_value : Act → ActValue

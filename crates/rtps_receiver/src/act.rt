@@ -1,5 +1,5 @@
 ghost use Rattle.std.specs.Prelude.{◌≡◌};
-ghost use Rattle.rtps_receiver.specs.Values.{act_body_value, act_value, spoken_value};
+ghost use Rattle.rtps_receiver.specs.Values as values;
 
 use crate::spoken::{Spoken, SpokenBody};
 use rtps_ids::{GuidPrefix, Order, Stamp, Vendor, Version};
@@ -38,7 +38,7 @@ pub struct Act<'a> {
 impl<'a> ActBody<'a> {
     /// The same once more.
     pub fn copied(&self) -> ActBody<'a>
-        ensures { act_body_value result ≡ act_body_value self.now }
+        ensures { values.act_body_value result ≡ values.act_body_value self.now }
     {
         match self {
             ActBody::Data(data) => ActBody::Data(DataBody {
@@ -58,7 +58,7 @@ impl<'a> ActBody<'a> {
 impl<'a> Act<'a> {
     /// The act as one of all that a walk hands on.
     pub fn spoken(&self) -> Spoken<'a>
-        ensures { spoken_value result ≡ act_value self.now }
+        ensures { values.spoken_value result ≡ values.act_value self.now }
     {
         Spoken {
             at: self.at,

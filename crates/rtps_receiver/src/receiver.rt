@@ -1,8 +1,8 @@
 ghost use Rattle.std.specs.Prelude.{◌≡◌, ◌≤◌, [], length, MatchResult};
 ghost use Rattle.std.specs.Iterator.{YieldsFirstBy, item_count};
-ghost use Rattle.rtps_receiver.specs.Acts.{acts_among, acts_left, acts_of, acts_then};
-ghost use Rattle.rtps_receiver.specs.Values.{act_outcome_value};
-ghost use Rattle.rtps_wire.specs.Reading.{reading_of, refused_with};
+ghost use Rattle.rtps_receiver.specs.Acts as acts_spec;
+ghost use Rattle.rtps_receiver.specs.Values as values;
+ghost use Rattle.rtps_wire.specs.Reading as reading;
 
 use crate::act::Act;
 use crate::state::State;
@@ -18,9 +18,9 @@ pub struct Acts<'a> {
 }
 
 impl<'a> Model for Acts<'a> {
-    ghost use Rattle.rtps_receiver.specs.Acts.{Awaited};
+    ghost use Rattle.rtps_receiver.specs.Acts as acts_spec;
 
-    ghost Value = { Awaited };
+    ghost Value = { acts_spec.Awaited };
 
     ghost view = { λ acts. record { state = acts.state; unread = acts.items } };
 }
@@ -31,9 +31,9 @@ impl<'a> Acts<'a> {
     #[inline(always)]
     pub fn open(bytes: &'a [u8]) -> Result<Acts<'a>, Refusal>
         ensures { MatchResult result
-            (λ acts. (acts_left acts ≡ acts_then (acts_of (reading_of bytes.now)) (reading_of bytes.now).ending)
-            × (acts_among (acts_left acts) ≡ acts_of (reading_of bytes.now)) × (length (acts_left acts) ≤ length bytes.now))
-            (λ refusal. (reading_of bytes.now ≡ refused_with refusal.fault) × (refusal.at ≡ 0) × (acts_of (reading_of bytes.now) ≡ [])) }
+            (λ acts. (acts_spec.acts_left acts ≡ acts_spec.acts_then (acts_spec.acts_of (reading.reading_of bytes.now)) (reading.reading_of bytes.now).ending)
+            × (acts_spec.acts_among (acts_spec.acts_left acts) ≡ acts_spec.acts_of (reading.reading_of bytes.now)) × (length (acts_spec.acts_left acts) ≤ length bytes.now))
+            (λ refusal. (reading.reading_of bytes.now ≡ reading.refused_with refusal.fault) × (refusal.at ≡ 0) × (acts_spec.acts_of (reading.reading_of bytes.now) ≡ [])) }
     {
         match Items::open(bytes) {
             Ok((header, items)) => {
@@ -48,9 +48,9 @@ impl<'a> Acts<'a> {
 impl<'a> Iterator for Acts<'a> {
     type Item = Result<Act<'a>, Refusal>;
 
-    ghost next_gives = { YieldsFirstBy act_outcome_value acts_left };
+    ghost next_gives = { YieldsFirstBy values.act_outcome_value acts_spec.acts_left };
 
-    ghost remaining = { item_count acts_left };
+    ghost remaining = { item_count acts_spec.acts_left };
 
     /// The next act, or the refusal that ends the message. After a refusal or the end it always gives None.
     #[inline(always)]

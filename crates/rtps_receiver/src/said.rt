@@ -39,13 +39,13 @@ pub struct SaidNumbers<'x, 'a> {
 
 impl<'x> Numbers<'x> {
     ghost use Rattle.std.specs.Prelude.{ℕ, ◌≡◌, ◌==◌, ◌≤◌, ◌<◌, ◌^◌, false, nat_lt, IfSome, MatchOption};
-    ghost use Rattle.rtps_ids.specs.NumberSet.{is_member};
-    ghost use Rattle.rtps_receiver.specs.Said.{IsRangeOf, numbers_have, is_in_gap};
+    ghost use Rattle.rtps_ids.specs.NumberSet as number_set;
+    ghost use Rattle.rtps_receiver.specs.Said as said_spec;
 
     /// No numbers.
     #[inline]
     fn none() -> Numbers<'x>
-        ensures { (n : ℕ) → numbers_have result n ≡ false }
+        ensures { (n : ℕ) → said_spec.numbers_have result n ≡ false }
     {
         Numbers {
             start: 0,
@@ -56,7 +56,7 @@ impl<'x> Numbers<'x> {
 
     /// Those below a number.
     fn below(number: SeqNum) -> Numbers<'x>
-        ensures { (n : ℕ) → numbers_have result n ≡ nat_lt n number }
+        ensures { (n : ℕ) → said_spec.numbers_have result n ≡ nat_lt n number }
     {
         Numbers {
             start: 0,
@@ -67,7 +67,7 @@ impl<'x> Numbers<'x> {
 
     /// Those of a set.
     fn of_set(set: &'x NumberSet) -> Numbers<'x>
-        ensures { (n : ℕ) → numbers_have result n ≡ is_member set.now n }
+        ensures { (n : ℕ) → said_spec.numbers_have result n ≡ number_set.is_member set.now n }
     {
         Numbers {
             start: 0,
@@ -78,7 +78,7 @@ impl<'x> Numbers<'x> {
 
     /// This number alone.
     fn one(number: SeqNum) -> Numbers<'x>
-        ensures { (n : ℕ) → numbers_have result n ≡ (number == n) }
+        ensures { (n : ℕ) → said_spec.numbers_have result n ≡ (number == n) }
     {
         let start = number.get().cast_unsigned();
         Numbers {
@@ -90,7 +90,7 @@ impl<'x> Numbers<'x> {
 
     /// Those of a GAP.
     fn of_gap(gap: &'x GapBody) -> Numbers<'x>
-        ensures { (n : ℕ) → numbers_have result n ≡ is_in_gap gap.now n }
+        ensures { (n : ℕ) → said_spec.numbers_have result n ≡ said_spec.is_in_gap gap.now n }
     {
         Numbers {
             start: gap.start.get().cast_unsigned(),
@@ -103,7 +103,7 @@ impl<'x> Numbers<'x> {
     #[inline]
     pub fn has(&self, n: u64) -> bool
         requires { n < 2 ^ 63 }
-        ensures { result ≡ numbers_have self.now n }
+        ensures { result ≡ said_spec.numbers_have self.now n }
     {
         if self.start <= n && n < self.end {
             return true;
@@ -117,7 +117,7 @@ impl<'x> Numbers<'x> {
     /// The first range of them from `at` on; None if there is none. To get all ranges, call it again with the end of each.
     #[inline]
     pub fn range_from(&self, at: u64) -> Option<Range<u64>>
-        ensures range { MatchOption result ((n : ℕ) → at ≤ n → numbers_have self.now n ≡ false) (λ range. IsRangeOf self.now at range.start range.end) }
+        ensures range { MatchOption result ((n : ℕ) → at ≤ n → said_spec.numbers_have self.now n ≡ false) (λ range. said_spec.IsRangeOf self.now at range.start range.end) }
         ensures in_range { IfSome result (λ range. range.end ≤ 2 ^ 63) }
     {
         let start = at.max(self.start);
@@ -129,15 +129,15 @@ impl<'x> Numbers<'x> {
 }
 
 impl<'x, 'a> SaidNumbers<'x, 'a> {
-    ghost use Rattle.std.specs.Prelude.{◌≡◌, Some};
+    ghost use Rattle.std.specs.Prelude.{Some};
     ghost use Rattle.std.specs.Option.{option_map};
-    ghost use Rattle.rtps_wire.specs.Values.{payload_value};
-    ghost use Rattle.rtps_receiver.specs.Said.{Says, nothing, numbers_have};
+    ghost use Rattle.rtps_wire.specs.Values as wire_values;
+    ghost use Rattle.rtps_receiver.specs.Said as said_spec;
 
     /// Nothing of any number.
     #[inline]
     pub fn none() -> SaidNumbers<'x, 'a>
-        ensures { Says nothing result }
+        ensures { said_spec.Says said_spec.nothing result }
     {
         SaidNumbers::of_numbers(Numbers::none(), Numbers::none(), 0)
     }
@@ -145,7 +145,7 @@ impl<'x, 'a> SaidNumbers<'x, 'a> {
     /// These are gone, the reader lacks those, and this number is announced; 0 announces none.
     fn of_numbers(gone: Numbers<'x>, lacked: Numbers<'x>, announced: u64) -> SaidNumbers<'x, 'a>
         requires { announced < 2 ^ 63 }
-        ensures { Says (record nothing { gone = numbers_have gone.entry; lacked = numbers_have lacked.entry; announced = Some announced }) result }
+        ensures { said_spec.Says (record said_spec.nothing { gone = said_spec.numbers_have gone.entry; lacked = said_spec.numbers_have lacked.entry; announced = Some announced }) result }
     {
         SaidNumbers {
             gone,
@@ -159,10 +159,10 @@ impl<'x, 'a> SaidNumbers<'x, 'a> {
 
     /// There is a sample of this number, and this is its payload, where it is told.
     fn of_sample(number: SeqNum, payload: Option<&'x Payload<'a>>) -> SaidNumbers<'x, 'a>
-        ensures { Says (record nothing {
+        ensures { said_spec.Says (record said_spec.nothing {
           brought = Some number;
           announced = Some number;
-          payload = option_map (λ payload. payload_value payload.now) payload.entry;
+          payload = option_map (λ payload. wire_values.payload_value payload.now) payload.entry;
         }) result }
     {
         let number = number.get().cast_unsigned();
@@ -183,14 +183,13 @@ impl<'x, 'a> SaidNumbers<'x, 'a> {
 }
 
 impl<'a> Spoken<'a> {
-    ghost use Rattle.rtps_receiver.specs.Said.{Says};
     ghost use Rattle.rtps_receiver.specs.Said as said_spec;
-    ghost use Rattle.rtps_receiver.specs.Values.{spoken_value};
+    ghost use Rattle.rtps_receiver.specs.Values as values;
 
     /// What the act says of numbers.
     #[inline]
     pub fn said<'x>(&'x self) -> SaidNumbers<'x, 'a>
-        ensures { Says (said_spec.said (spoken_value self.now).body) result }
+        ensures { said_spec.Says (said_spec.said (values.spoken_value self.now).body) result }
     {
         let none = Numbers::none();
         match &self.body {

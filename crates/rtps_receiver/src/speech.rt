@@ -18,13 +18,13 @@ pub struct Audience {
 
 impl Audience {
     ghost use Rattle.std.specs.Prelude.{◌≡◌, Some};
-    ghost use Rattle.rtps_receiver.specs.Speech.{is_among};
+    ghost use Rattle.rtps_receiver.specs.Speech as speech;
 
     /// Whether this reader is among them: the destination is everyone or the reader's participant, and the reader that
     /// is named is this one, or none is.
     #[inline]
     pub fn has(&self, reader: Guid) -> bool
-        ensures { result ≡ is_among self.now.dest (Some self.now.reader) reader }
+        ensures { result ≡ speech.is_among self.now.dest (Some self.now.reader) reader }
     {
         let for_it = match self.dest {
             None => true,
@@ -36,12 +36,12 @@ impl Audience {
 
 impl<'a> ActBody<'a> {
     ghost use Rattle.std.specs.Prelude.{◌≡◌};
-    ghost use Rattle.rtps_receiver.specs.Speech.{entity_from, reader_named, writer_named};
-    ghost use Rattle.rtps_receiver.specs.Values.{act_body_value};
+    ghost use Rattle.rtps_receiver.specs.Speech as speech;
+    ghost use Rattle.rtps_receiver.specs.Values as values;
 
     /// The entity that it is from.
     fn entity_from(&self) -> EntityId
-        ensures { result ≡ entity_from (act_body_value self.now) }
+        ensures { result ≡ speech.entity_from (values.act_body_value self.now) }
     {
         match self {
             ActBody::Data(data) => data.writer,
@@ -53,7 +53,7 @@ impl<'a> ActBody<'a> {
 
     /// The writer that it names, unless it is an ACKNACK.
     fn writer_named(&self) -> Option<EntityId>
-        ensures { result ≡ writer_named (act_body_value self.now) }
+        ensures { result ≡ speech.writer_named (values.act_body_value self.now) }
     {
         match self {
             ActBody::Data(data) => Some(data.writer),
@@ -65,7 +65,7 @@ impl<'a> ActBody<'a> {
 
     /// The reader that it names, unless it is an ACKNACK.
     fn reader_named(&self) -> Option<EntityId>
-        ensures { result ≡ reader_named (act_body_value self.now) }
+        ensures { result ≡ speech.reader_named (values.act_body_value self.now) }
     {
         match self {
             ActBody::Data(data) => Some(data.reader),
@@ -78,12 +78,12 @@ impl<'a> ActBody<'a> {
 
 impl<'a> SpokenBody<'a> {
     ghost use Rattle.std.specs.Prelude.{◌≡◌};
-    ghost use Rattle.rtps_receiver.specs.Speech.{asks_pair, entity_from, reader_named, writer_named};
-    ghost use Rattle.rtps_receiver.specs.Values.{spoken_body_value};
+    ghost use Rattle.rtps_receiver.specs.Speech as speech;
+    ghost use Rattle.rtps_receiver.specs.Values as values;
 
     /// The same once more.
     fn copied(&self) -> SpokenBody<'a>
-        ensures { spoken_body_value result ≡ spoken_body_value self.now }
+        ensures { values.spoken_body_value result ≡ values.spoken_body_value self.now }
     {
         match self {
             SpokenBody::Act(body) => SpokenBody::Act(body.copied()),
@@ -100,7 +100,7 @@ impl<'a> SpokenBody<'a> {
 
     /// The entity that it is from.
     fn entity_from(&self) -> EntityId
-        ensures { result ≡ entity_from (spoken_body_value self.now) }
+        ensures { result ≡ speech.entity_from (values.spoken_body_value self.now) }
     {
         match self {
             SpokenBody::Act(body) => body.entity_from(),
@@ -111,7 +111,7 @@ impl<'a> SpokenBody<'a> {
 
     /// The writer that it names, unless it is an ACKNACK or a NACK_FRAG.
     fn writer_named(&self) -> Option<EntityId>
-        ensures { result ≡ writer_named (spoken_body_value self.now) }
+        ensures { result ≡ speech.writer_named (values.spoken_body_value self.now) }
     {
         match self {
             SpokenBody::Act(body) => body.writer_named(),
@@ -122,7 +122,7 @@ impl<'a> SpokenBody<'a> {
 
     /// The reader that it names, unless it is an ACKNACK or a NACK_FRAG.
     fn reader_named(&self) -> Option<EntityId>
-        ensures { result ≡ reader_named (spoken_body_value self.now) }
+        ensures { result ≡ speech.reader_named (values.spoken_body_value self.now) }
     {
         match self {
             SpokenBody::Act(body) => body.reader_named(),
@@ -133,7 +133,7 @@ impl<'a> SpokenBody<'a> {
 
     /// Whether it is an ACKNACK or a NACK_FRAG that names these two.
     fn asks_pair(&self, reader: EntityId, writer: EntityId) -> bool
-        ensures { result ≡ asks_pair (spoken_body_value self.now) reader writer }
+        ensures { result ≡ speech.asks_pair (values.spoken_body_value self.now) reader writer }
     {
         match self {
             SpokenBody::Act(ActBody::AckNack(ack_nack)) => {
@@ -150,13 +150,13 @@ impl<'a> SpokenBody<'a> {
 impl<'a> Act<'a> {
     ghost use Rattle.std.specs.Prelude.{◌↔◌, ◌≡◌, IsTrue, Some};
     ghost use Rattle.rtps_ids.specs.declared.identity.Guid.{Guid as GuidValue};
-    ghost use Rattle.rtps_receiver.specs.Audience.{audience_of};
-    ghost use Rattle.rtps_receiver.specs.Speech.{IsAnswer, IsHeardBy, IsSpokenBy, is_answer, is_heard_by, is_spoken_by, origin_of, writer_answered};
-    ghost use Rattle.rtps_receiver.specs.Values.{act_value};
+    ghost use Rattle.rtps_receiver.specs.Audience as audience;
+    ghost use Rattle.rtps_receiver.specs.Speech as speech;
+    ghost use Rattle.rtps_receiver.specs.Values as values;
 
     /// The GUID that it is from: its source, and the reader that an ACKNACK names, or the writer that any other act names.
     pub fn origin(&self) -> Guid
-        ensures { result ≡ origin_of (act_value self.now) }
+        ensures { result ≡ speech.origin_of (values.act_value self.now) }
     {
         Guid {
             prefix: self.source,
@@ -166,8 +166,8 @@ impl<'a> Act<'a> {
 
     /// Whether this writer sent it: an act from its participant that names it as the writer. False for an ACKNACK.
     pub fn spoken_by(&self, writer: Guid) -> bool
-        ensures relation { IsTrue result ↔ IsSpokenBy (act_value self.now) writer }
-        ensures test { result ≡ is_spoken_by (act_value self.now) writer }
+        ensures relation { IsTrue result ↔ speech.IsSpokenBy (values.act_value self.now) writer }
+        ensures test { result ≡ speech.is_spoken_by (values.act_value self.now) writer }
     {
         self.source == writer.prefix && self.body.writer_named() == Some(writer.entity)
     }
@@ -175,8 +175,8 @@ impl<'a> Act<'a> {
     /// Whether it is sent to this reader: an act to everyone or to its participant that names this reader or every reader.
     /// False for an ACKNACK. It does not say whether the reader received it.
     pub fn heard_by(&self, reader: Guid) -> bool
-        ensures relation { IsTrue result ↔ IsHeardBy (act_value self.now) reader }
-        ensures test { result ≡ is_heard_by (act_value self.now) reader }
+        ensures relation { IsTrue result ↔ speech.IsHeardBy (values.act_value self.now) reader }
+        ensures test { result ≡ speech.is_heard_by (values.act_value self.now) reader }
     {
         match self.audience() {
             Some(audience) => audience.has(reader),
@@ -186,7 +186,7 @@ impl<'a> Act<'a> {
 
     /// The readers that an act of a writer is sent to. None for an ACKNACK.
     pub fn audience(&self) -> Option<Audience>
-        ensures { result ≡ audience_of (act_value self.now) }
+        ensures { result ≡ audience.audience_of (values.act_value self.now) }
     {
         Some(Audience {
             dest: self.dest,
@@ -197,8 +197,8 @@ impl<'a> Act<'a> {
     /// Whether it is an ACKNACK of this reader that answers this writer: its destination is the writer's participant. False
     /// for any other act, and for an ACKNACK to everyone.
     pub fn answers(&self, reader: Guid, writer: Guid) -> bool
-        ensures relation { IsTrue result ↔ IsAnswer (act_value self.now) reader writer }
-        ensures test { result ≡ is_answer (act_value self.now) reader writer }
+        ensures relation { IsTrue result ↔ speech.IsAnswer (values.act_value self.now) reader writer }
+        ensures test { result ≡ speech.is_answer (values.act_value self.now) reader writer }
     {
         self.origin() == reader && self.answered() == Some(writer)
     }
@@ -207,8 +207,8 @@ impl<'a> Act<'a> {
     /// other act, and for an ACKNACK to everyone. The answer is that of its origin.
     pub fn answered(&self) -> Option<Guid>
         ensures relation { (reader writer : GuidValue)
-            → IsAnswer (act_value self.now) reader writer ↔ ((origin_of (act_value self.now) ≡ reader) × (result ≡ Some writer)) }
-        ensures value { result ≡ writer_answered (act_value self.now) }
+            → speech.IsAnswer (values.act_value self.now) reader writer ↔ ((speech.origin_of (values.act_value self.now) ≡ reader) × (result ≡ Some writer)) }
+        ensures value { result ≡ speech.writer_answered (values.act_value self.now) }
     {
         let ActBody::AckNack(ack_nack) = &self.body else {
             return None;
@@ -223,13 +223,13 @@ impl<'a> Act<'a> {
 impl<'a> Spoken<'a> {
     ghost use Rattle.std.specs.Prelude.{◌↔◌, ◌≡◌, IsTrue, Some};
     ghost use Rattle.rtps_ids.specs.declared.identity.Guid.{Guid as GuidValue};
-    ghost use Rattle.rtps_receiver.specs.Audience.{audience_of};
-    ghost use Rattle.rtps_receiver.specs.Speech.{IsAnswer, IsHeardBy, IsRequest, IsSpokenBy, is_answer, is_heard_by, is_request, is_spoken_by, origin_of, writer_answered};
-    ghost use Rattle.rtps_receiver.specs.Values.{spoken_value};
+    ghost use Rattle.rtps_receiver.specs.Audience as audience;
+    ghost use Rattle.rtps_receiver.specs.Speech as speech;
+    ghost use Rattle.rtps_receiver.specs.Values as values;
 
     /// The same once more.
     pub fn copied(&self) -> Spoken<'a>
-        ensures { spoken_value result ≡ spoken_value self.now }
+        ensures { values.spoken_value result ≡ values.spoken_value self.now }
     {
         Spoken {
             at: self.at,
@@ -245,7 +245,7 @@ impl<'a> Spoken<'a> {
 
     /// The GUID that it is from: its source, and the reader that an ACKNACK or a NACK_FRAG names, or the writer that any other act names.
     pub fn origin(&self) -> Guid
-        ensures { result ≡ origin_of (spoken_value self.now) }
+        ensures { result ≡ speech.origin_of (values.spoken_value self.now) }
     {
         Guid {
             prefix: self.source,
@@ -255,8 +255,8 @@ impl<'a> Spoken<'a> {
 
     /// Whether this writer sent it: an act from its participant that names it as the writer. False for an ACKNACK or a NACK_FRAG.
     pub fn spoken_by(&self, writer: Guid) -> bool
-        ensures relation { IsTrue result ↔ IsSpokenBy (spoken_value self.now) writer }
-        ensures test { result ≡ is_spoken_by (spoken_value self.now) writer }
+        ensures relation { IsTrue result ↔ speech.IsSpokenBy (values.spoken_value self.now) writer }
+        ensures test { result ≡ speech.is_spoken_by (values.spoken_value self.now) writer }
     {
         self.source == writer.prefix && self.body.writer_named() == Some(writer.entity)
     }
@@ -264,8 +264,8 @@ impl<'a> Spoken<'a> {
     /// Whether it is sent to this reader: an act to everyone or to its participant that names this reader or every reader.
     /// False for an ACKNACK or a NACK_FRAG. It does not say whether the reader received it.
     pub fn heard_by(&self, reader: Guid) -> bool
-        ensures relation { IsTrue result ↔ IsHeardBy (spoken_value self.now) reader }
-        ensures test { result ≡ is_heard_by (spoken_value self.now) reader }
+        ensures relation { IsTrue result ↔ speech.IsHeardBy (values.spoken_value self.now) reader }
+        ensures test { result ≡ speech.is_heard_by (values.spoken_value self.now) reader }
     {
         match self.audience() {
             Some(audience) => audience.has(reader),
@@ -275,7 +275,7 @@ impl<'a> Spoken<'a> {
 
     /// The readers that an act of a writer is sent to. None for an ACKNACK or a NACK_FRAG.
     pub fn audience(&self) -> Option<Audience>
-        ensures { result ≡ audience_of (spoken_value self.now) }
+        ensures { result ≡ audience.audience_of (values.spoken_value self.now) }
     {
         Some(Audience {
             dest: self.dest,
@@ -286,8 +286,8 @@ impl<'a> Spoken<'a> {
     /// Whether it is an ACKNACK of this reader that answers this writer: its destination is the writer's participant. False
     /// for any other act, and for an ACKNACK to everyone.
     pub fn answers(&self, reader: Guid, writer: Guid) -> bool
-        ensures relation { IsTrue result ↔ IsAnswer (spoken_value self.now) reader writer }
-        ensures test { result ≡ is_answer (spoken_value self.now) reader writer }
+        ensures relation { IsTrue result ↔ speech.IsAnswer (values.spoken_value self.now) reader writer }
+        ensures test { result ≡ speech.is_answer (values.spoken_value self.now) reader writer }
     {
         self.answered() == Some(writer) && self.origin() == reader
     }
@@ -296,8 +296,8 @@ impl<'a> Spoken<'a> {
     /// other act, and for an ACKNACK to everyone. The answer is that of its origin.
     pub fn answered(&self) -> Option<Guid>
         ensures relation { (reader writer : GuidValue)
-            → IsAnswer (spoken_value self.now) reader writer ↔ ((origin_of (spoken_value self.now) ≡ reader) × (result ≡ Some writer)) }
-        ensures value { result ≡ writer_answered (spoken_value self.now) }
+            → speech.IsAnswer (values.spoken_value self.now) reader writer ↔ ((speech.origin_of (values.spoken_value self.now) ≡ reader) × (result ≡ Some writer)) }
+        ensures value { result ≡ speech.writer_answered (values.spoken_value self.now) }
     {
         let SpokenBody::Act(ActBody::AckNack(ack_nack)) = &self.body else {
             return None;
@@ -311,8 +311,8 @@ impl<'a> Spoken<'a> {
     /// Whether it is a request of this reader to this writer: an ACKNACK or a NACK_FRAG of the reader, whose destination is
     /// the writer's participant. False for any other act, and for one to everyone.
     pub fn asks(&self, reader: Guid, writer: Guid) -> bool
-        ensures relation { IsTrue result ↔ IsRequest (spoken_value self.now) reader writer }
-        ensures test { result ≡ is_request (spoken_value self.now) reader writer }
+        ensures relation { IsTrue result ↔ speech.IsRequest (values.spoken_value self.now) reader writer }
+        ensures test { result ≡ speech.is_request (values.spoken_value self.now) reader writer }
     {
         self.source == reader.prefix
             && self.dest == Some(writer.prefix)

@@ -1,9 +1,9 @@
 ghost use Rattle.std.specs.Prelude.{◌≡◌, if◌then◌else◌, None, Some};
 ghost use Rattle.std.specs.Option.{option_map};
-ghost use Rattle.rtps_receiver.specs.Acts.{act_body};
-ghost use Rattle.rtps_receiver.specs.Destination.{is_unknown};
-ghost use Rattle.rtps_receiver.specs.Values.{act_body_value};
-ghost use Rattle.rtps_wire.specs.Values.{body_value};
+ghost use Rattle.rtps_receiver.specs.Acts as acts;
+ghost use Rattle.rtps_receiver.specs.Destination as destination;
+ghost use Rattle.rtps_receiver.specs.Values as values;
+ghost use Rattle.rtps_wire.specs.Values as wire_values;
 
 use crate::act::{Act, ActBody};
 use crate::spoken::{Spoken, SpokenBody};
@@ -20,14 +20,11 @@ pub struct State {
 }
 
 impl State {
-    ghost use Rattle.std.specs.Prelude.{◌≡◌, [], ◌∷◌, MatchOption, None, Some};
-    ghost use Rattle.rtps_receiver.specs.Acts.{IsActIn, act_body, state_at_start, state_behind};
-    ghost use Rattle.rtps_receiver.specs.Values.{act_value, spoken_value};
-    ghost use Rattle.rtps_wire.specs.Values.{item_value};
+    ghost use Rattle.std.specs.Prelude.{◌≡◌, [], ◌∷◌, MatchOption, None};
 
     /// The state at the start of a message.
     pub fn at_start(header: Header) -> State
-        ensures { result ≡ state_at_start header }
+        ensures { result ≡ acts.state_at_start header }
     {
         State {
             source: header,
@@ -39,7 +36,7 @@ impl State {
     /// The act that this item is in this state, or None if it is no act.
     #[inline(always)]
     pub fn act<'a>(&self, item: &Item<'a>) -> Option<Act<'a>>
-        ensures { MatchOption result (act_body (item_value item.now).body ≡ None) (λ act. IsActIn self.now (item_value item.now) (act_value act)) }
+        ensures { MatchOption result (acts.act_body (wire_values.item_value item.now).body ≡ None) (λ act. acts.IsActIn self.now (wire_values.item_value item.now) (values.act_value act)) }
     {
         let Some(body) = body_of_act(&item.body) else {
             return None;
@@ -59,7 +56,7 @@ impl State {
     /// The act that this item is in this state, as what a walk hands on, or None if it is no act.
     #[inline(always)]
     pub fn spoken<'a>(&self, item: &Item<'a>) -> Option<Spoken<'a>>
-        ensures { MatchOption result (act_body (item_value item.now).body ≡ None) (λ act. IsActIn self.now (item_value item.now) (spoken_value act)) }
+        ensures { MatchOption result (acts.act_body (wire_values.item_value item.now).body ≡ None) (λ act. acts.IsActIn self.now (wire_values.item_value item.now) (values.spoken_value act)) }
     {
         let Some(body) = body_of_act(&item.body) else {
             return None;
@@ -79,7 +76,7 @@ impl State {
     /// Changes the state as this item says.
     #[inline(always)]
     pub fn interpret(&mut self, item: &Item<'_>)
-        ensures { self.new ≡ state_behind self.old (item_value item.now ∷ []) }
+        ensures { self.new ≡ acts.state_behind self.old (wire_values.item_value item.now ∷ []) }
     {
         match &item.body {
             Body::InfoTs(stamp) => self.stamp = *stamp,
@@ -104,7 +101,7 @@ impl State {
 /// The body of an act, or None if a submessage with this body is no act.
 #[inline(always)]
 fn body_of_act<'a>(body: &Body<'a>) -> Option<ActBody<'a>>
-    ensures { option_map act_body_value result ≡ act_body (body_value body.now) }
+    ensures { option_map values.act_body_value result ≡ acts.act_body (wire_values.body_value body.now) }
 {
     match body {
         Body::Data(data) => Some(ActBody::Data(DataBody {
@@ -123,7 +120,7 @@ fn body_of_act<'a>(body: &Body<'a>) -> Option<ActBody<'a>>
 
 /// The participant that this prefix names. None, which is everyone, if all its octets are zero.
 fn destination(prefix: GuidPrefix) -> Option<GuidPrefix>
-    ensures { result ≡ (if is_unknown prefix then None else Some prefix) }
+    ensures { result ≡ (if destination.is_unknown prefix then None else Some prefix) }
 {
     if prefix.0.iter().all(|octet| *octet == 0) {
         None

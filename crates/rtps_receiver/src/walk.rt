@@ -1,8 +1,8 @@
 ghost use Rattle.std.specs.Prelude.{◌≡◌, ◌<◌, ◌^◌, [], length, map, if◌then◌else◌, IfOk, OnOk};
-ghost use Rattle.rtps_receiver.specs.Acts.{acts_behind, acts_of, data_among};
-ghost use Rattle.rtps_receiver.specs.Values.{spoken_value};
-ghost use Rattle.rtps_wire.specs.Reading.{items_among, outcomes_left, reading_of};
-ghost use Rattle.rtps_wire.specs.Tally.{tally_of, tally_of_outcomes};
+ghost use Rattle.rtps_receiver.specs.Acts as acts_spec;
+ghost use Rattle.rtps_receiver.specs.Values as values;
+ghost use Rattle.rtps_wire.specs.Reading as reading;
+ghost use Rattle.rtps_wire.specs.Tally as tally_spec;
 
 use crate::spoken::Spoken;
 use crate::state::State;
@@ -21,11 +21,11 @@ pub struct Walk<'a> {
 
 impl<'a> Model for Walk<'a> {
     ghost use Rattle.std.specs.Prelude.{List, map};
-    ghost use Rattle.rtps_receiver.specs.Values.{ActValue, spoken_value};
+    ghost use Rattle.rtps_receiver.specs.Values as values;
 
-    ghost Value = { List ActValue };
+    ghost Value = { List values.ActValue };
 
-    ghost view = { λ walk. map spoken_value walk.acts.items };
+    ghost view = { λ walk. map values.spoken_value walk.acts.items };
 }
 
 impl<'a> Walk<'a> {
@@ -41,8 +41,8 @@ impl<'a> Walk<'a> {
     /// Reads a datagram of any length, up to its refusal, if it has one. Its acts replace those of the datagram before.
     /// Returns its tally. After `Memory` the acts mean nothing.
     pub fn read(&mut self, datagram: &'a [u8]) -> Result<Tally, Memory>
-        ensures acts { OnOk result (self.new ≡ acts_of (reading_of datagram.now)) }
-        ensures tally { IfOk result (λ tally. tally ≡ tally_of (reading_of datagram.now)) }
+        ensures acts { OnOk result (self.new ≡ acts_spec.acts_of (reading.reading_of datagram.now)) }
+        ensures tally { IfOk result (λ tally. tally ≡ tally_spec.tally_of (reading.reading_of datagram.now)) }
     {
         self.acts.clear();
         match Items::open(datagram) {
@@ -58,7 +58,7 @@ impl<'a> Walk<'a> {
     /// Reads a datagram as [`Walk::read`] does, but keeps only its DATA. It is faster if only DATA are wanted. After
     /// `Memory` the acts mean nothing.
     pub fn read_data(&mut self, datagram: &'a [u8]) -> Result<(), Memory>
-        ensures { OnOk result (self.new ≡ data_among (acts_of (reading_of datagram.now))) }
+        ensures { OnOk result (self.new ≡ acts_spec.data_among (acts_spec.acts_of (reading.reading_of datagram.now))) }
     {
         self.acts.truncate(0);
         match Items::open(datagram) {
@@ -69,7 +69,7 @@ impl<'a> Walk<'a> {
 
     /// The acts of the datagram that was read last, in order, each with the receiver's state at its place.
     pub fn acts(&self) -> &[Spoken<'a>]
-        ensures { map spoken_value result.now ≡ self.now }
+        ensures { map values.spoken_value result.now ≡ self.now }
     {
         &self.acts
     }
@@ -82,9 +82,9 @@ fn push_acts<'a>(
     items: Items<'a>,
 ) -> Result<Tally, Memory>
     requires empty { acts.old.items ≡ [] }
-    requires few { length (outcomes_left items) < 2 ^ 64 }
-    ensures acts { OnOk result (map spoken_value acts.new.items ≡ acts_behind start [] (items_among (outcomes_left items.entry))) }
-    ensures tally { IfOk result (λ tally. tally ≡ tally_of_outcomes (outcomes_left items.entry)) }
+    requires few { length (reading.outcomes_left items) < 2 ^ 64 }
+    ensures acts { OnOk result (map values.spoken_value acts.new.items ≡ acts_spec.acts_behind start [] (reading.items_among (reading.outcomes_left items.entry))) }
+    ensures tally { IfOk result (λ tally. tally ≡ tally_spec.tally_of_outcomes (reading.outcomes_left items.entry)) }
 {
     let mut state = start;
     let mut items = items;
@@ -117,8 +117,8 @@ fn push_acts<'a>(
 /// Appends the DATA of the unread part of a datagram, from this state on.
 fn push_data<'a>(acts: &mut Vec<Spoken<'a>>, start: State, items: Items<'a>) -> Result<(), Memory>
     requires { acts.old.items ≡ [] }
-    ensures { OnOk result (map spoken_value acts.new.items
-        ≡ data_among (acts_behind start [] (items_among (outcomes_left items.entry)))) }
+    ensures { OnOk result (map values.spoken_value acts.new.items
+        ≡ acts_spec.data_among (acts_spec.acts_behind start [] (reading.items_among (reading.outcomes_left items.entry)))) }
 {
     let mut state = start;
     let mut items = items;

@@ -3,27 +3,27 @@ use Rattle.std.proofs.Common.{◌≡◌, Option, List, ap, ap₂, if◌then◌el
 use Rattle.std.specs.Option.{option_or}
 use Rattle.rtps_ids.specs.declared.identity.Guid.{Guid}
 use Rattle.rtps_ids.specs.declared.identity.GuidPrefix.{GuidPrefix}
-use Rattle.rtps_receiver.specs.Speech.{is_entity}
-use Rattle.rtps_policies.specs.Announcing.{participant_of}
-use Rattle.rtps_who.specs.Naming.{Recorded, all_by, node_of, node_of_end, nodes_of_participant, only_by, only_node, process_of}
-use Rattle.rtps_who.specs.Processes.{ProcessValue, unknown_process}
-use Rattle.rtps_who.specs.Recorded.{IsWhoIn, node_in, node_of_end_in, nodes_in, only_in, process_in}
-use Rattle.rtps_who.specs.Samples.{NodeValue}
-use Rattle.rtps_who.specs.Services.{node_by}
+use Rattle.rtps_receiver.specs.Speech as speech
+use Rattle.rtps_policies.specs.Announcing as announcing
+use Rattle.rtps_who.specs.Naming as naming
+use Rattle.rtps_who.specs.Processes as processes
+use Rattle.rtps_who.specs.Recorded as recorded_spec
+use Rattle.rtps_who.specs.Samples as samples
+use Rattle.rtps_who.specs.Services as services
 use Rattle.rtps_who.specs.declared.who.Who.{Who}
 
-pub process_is : (recorded : Recorded) (who : Who) → IsWhoIn recorded who → (prefix : GuidPrefix) → process_in who prefix ≡ process_of recorded prefix
-process_is recorded who is prefix = ap (λ (found : Option ProcessValue). unwrap_or found unknown_process) (is.introductions.processes (participant_of prefix))
+pub process_is : (recorded : naming.Recorded) (who : Who) → recorded_spec.IsWhoIn recorded who → (prefix : GuidPrefix) → recorded_spec.process_in who prefix ≡ naming.process_of recorded prefix
+process_is recorded who is prefix = ap (λ (found : Option processes.ProcessValue). unwrap_or found processes.unknown_process) (is.introductions.processes (announcing.participant_of prefix))
 
-pub only_is : (recorded : Recorded) (who : Who) → IsWhoIn recorded who → (prefix : GuidPrefix) → only_in who prefix ≡ only_node recorded prefix
-only_is recorded who is prefix = ap₂ only_by (is.told.samples prefix) (ap node_by (is.introductions.services prefix))
+pub only_is : (recorded : naming.Recorded) (who : Who) → recorded_spec.IsWhoIn recorded who → (prefix : GuidPrefix) → recorded_spec.only_in who prefix ≡ naming.only_node recorded prefix
+only_is recorded who is prefix = ap₂ naming.only_by (is.told.samples prefix) (ap services.node_by (is.introductions.services prefix))
 
-pub nodes_are : (recorded : Recorded) (who : Who) → IsWhoIn recorded who → (prefix : GuidPrefix) → nodes_in who prefix ≡ nodes_of_participant recorded prefix
-nodes_are recorded who is prefix = ap₂ all_by (is.told.samples prefix) (ap node_by (is.introductions.services prefix))
+pub nodes_are : (recorded : naming.Recorded) (who : Who) → recorded_spec.IsWhoIn recorded who → (prefix : GuidPrefix) → recorded_spec.nodes_in who prefix ≡ naming.nodes_of_participant recorded prefix
+nodes_are recorded who is prefix = ap₂ naming.all_by (is.told.samples prefix) (ap services.node_by (is.introductions.services prefix))
 
-pub node_is : (recorded : Recorded) (who : Who) → IsWhoIn recorded who → (guid : Guid) → node_in who guid ≡ node_of recorded guid
+pub node_is : (recorded : naming.Recorded) (who : Who) → recorded_spec.IsWhoIn recorded who → (guid : Guid) → recorded_spec.node_in who guid ≡ naming.node_of recorded guid
 node_is recorded who is guid = ap₂ option_or (is.told.listed guid) (only_is recorded who is guid.prefix)
 
-pub end_node_is : (recorded : Recorded) (who : Who) → IsWhoIn recorded who → (guid : Guid) → node_of_end_in who guid ≡ node_of_end recorded guid
+pub end_node_is : (recorded : naming.Recorded) (who : Who) → recorded_spec.IsWhoIn recorded who → (guid : Guid) → recorded_spec.node_of_end_in who guid ≡ naming.node_of_end recorded guid
 end_node_is recorded who is guid =
-    ap₂ (λ (one other : Option NodeValue). if is_entity guid.entity (participant_of guid.prefix).entity then one else other) (only_is recorded who is guid.prefix) (node_is recorded who is guid)
+    ap₂ (λ (one other : Option samples.NodeValue). if speech.is_entity guid.entity (announcing.participant_of guid.prefix).entity then one else other) (only_is recorded who is guid.prefix) (node_is recorded who is guid)

@@ -9,18 +9,16 @@ use Rattle.std.specs.List.{ends_with}
 use Rattle.std.specs.Option.{option_map}
 use Rattle.rtps_ids.specs.declared.identity.Guid.{Guid}
 use Rattle.rtps_ids.specs.declared.order.Order.{Order}
-use Rattle.rtps_ids.specs.declared.order.Order.TheVariants.{Big, Little}
-use Rattle.rtps_params.specs.Values.{guid_of, u32_of}
-use Rattle.rtps_who.specs.Items.{all_in, items_in}
+use Rattle.rtps_params.specs.Values as values
+use Rattle.rtps_who.specs.Items as items
 use Rattle.rtps_who.specs.Steps.{◌>>=◌}
-use Rattle.rtps_who.specs.Texts.{front_text}
+use Rattle.rtps_who.specs.Texts as texts
 use Rattle.rtps_who.specs.declared.entry.Entry.{Entry}
 use Rattle.rtps_who.specs.declared.gids.Gids.{Gids}
 use Rattle.rtps_who.specs.declared.gids.Width.{Width}
-use Rattle.rtps_who.specs.declared.gids.Width.TheVariants.{Narrow, Wide}
 use Rattle.rtps_who.specs.declared.layout.gid.TheConstants as gid
 use Rattle.rtps_who.specs.declared.layout.header.TheConstants as header
-use Rattle.rtps_who.specs.declared.layout.sequence.TheConstants.{COUNT_SIZE}
+use Rattle.rtps_who.specs.declared.layout.sequence.TheConstants as sequence
 use Rattle.rtps_who.specs.declared.node.Node.{Node}
 use Rattle.rtps_who.specs.declared.sample.Sample.{Sample}
 
@@ -28,28 +26,28 @@ use Rattle.rtps_who.specs.declared.sample.Sample.{Sample}
 
 -- the size of a gid
 abbrev pub size_of : Width → ℕ
-size_of Narrow = gid.GUID_SIZE
-size_of Wide = gid.WIDE_SIZE
+size_of Width.Narrow = gid.GUID_SIZE
+size_of Width.Wide = gid.WIDE_SIZE
 
 -- what is behind the GUID of a gid is as it has to be
 abbrev pub is_filled : Width → List ℕ → Bool
-is_filled Narrow octets = true
-is_filled Wide octets = pointwise nat_eq (take 8 (drop gid.GUID_SIZE octets)) gid.ZEROS
+is_filled Width.Narrow octets = true
+is_filled Width.Wide octets = pointwise nat_eq (take 8 (drop gid.GUID_SIZE octets)) gid.ZEROS
 
 -- the gid at the beginning
 abbrev pub front_gid : Width → List ℕ → Option (Guid × List ℕ)
 front_gid width octets =
-    if nat_le (size_of width) (length octets) && is_filled width octets then option_map (λ guid. (guid, drop (size_of width) octets)) (guid_of octets) else None
+    if nat_le (size_of width) (length octets) && is_filled width octets then option_map (λ guid. (guid, drop (size_of width) octets)) (values.guid_of octets) else None
 
 -- a list of gids at the beginning
 abbrev pub front_gids : Order → Width → List ℕ → Option (List Guid × List ℕ)
 front_gids order width octets = do
-  count ← u32_of order octets
-  all_in (front_gid width) count (drop COUNT_SIZE octets)
+  count ← values.u32_of order octets
+  items.all_in (front_gid width) count (drop sequence.COUNT_SIZE octets)
 
 -- the gids of a list of the code
 abbrev pub gids_value : Gids → List Guid
-gids_value gids = items_in (front_gid gids.width) gids.count gids.octets.now
+gids_value gids = items.items_in (front_gid gids.width) gids.count gids.octets.now
 
 -- ---- nodes
 
@@ -75,8 +73,8 @@ entry_value entry = record { node = node_value entry.node; readers = gids_value 
 -- the node at the beginning
 abbrev pub front_entry : Order → Width → List ℕ → Option (EntryValue × List ℕ)
 front_entry order width octets = do
-  namespace ← front_text order octets
-  name ← front_text order namespace.1
+  namespace ← texts.front_text order octets
+  name ← texts.front_text order namespace.1
   readers ← front_gids order width name.1
   writers ← front_gids order width readers.1
   Some (record { node = record { namespace = namespace.0; name = name.0 }; readers = readers.0; writers = writers.0 }, writers.1)
@@ -102,13 +100,13 @@ abbrev pub sample_value : Sample → SampleValue
 sample_value sample =
     record {
       count = sample.count;
-      entries = items_in (front_entry sample.order sample.width) sample.count sample.octets.now;
+      entries = items.items_in (front_entry sample.order sample.width) sample.count sample.octets.now;
       only = option_map node_value sample.only;
     }
 
 -- the order of a value whose representation has this id
 abbrev pub order_of_id : List ℕ → Option Order
-order_of_id id = if pointwise nat_eq id header.CDR_BE then Some Big else if pointwise nat_eq id header.CDR_LE then Some Little else None
+order_of_id id = if pointwise nat_eq id header.CDR_BE then Some Order.Big else if pointwise nat_eq id header.CDR_LE then Some Order.Little else None
 
 -- the order of a payload
 abbrev pub order_in : List ℕ → Option Order
@@ -116,13 +114,13 @@ order_in payload = if nat_le header.SIZE (length payload) then order_of_id (take
 
 -- the form of its gids: the wider one where there is room for it, and what is behind the first GUID are zeros
 abbrev pub width_of : List ℕ → Width
-width_of body = if nat_le gid.WIDE_ROOM (length body) && is_filled Wide body then Wide else Narrow
+width_of body = if nat_le gid.WIDE_ROOM (length body) && is_filled Width.Wide body then Width.Wide else Width.Narrow
 
 -- the nodes in what is behind a participant's gid
 abbrev pub nodes_in : Order → Width → List ℕ → Option SampleValue
 nodes_in order width octets = do
-  count ← u32_of order octets
-  all ← all_in (front_entry order width) count (drop COUNT_SIZE octets)
+  count ← values.u32_of order octets
+  all ← items.all_in (front_entry order width) count (drop sequence.COUNT_SIZE octets)
   if nat_le (length all.1) gid.PADDING then Some (record { count = count; entries = all.0; only = only_among count all.0 }) else None
 
 -- the nodes that a body tells

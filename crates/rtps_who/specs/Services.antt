@@ -3,12 +3,10 @@
 use Rattle.std.specs.Prelude.{ℕ, ◌≡◌, ◌≢◌, ◌↔◌, ◌+◌, ◌-◌, ◌&&◌, Bool, if◌then◌else◌, List, [], All, Option, Some, None, codes, drop, fold, length, nat_eq, nat_lt, take}
 use Rattle.std.specs.Cmp.Lexicographic.{pointwise}
 use Rattle.std.specs.List.{ends_with, starts_with}
-use Rattle.rtps_discovery.specs.Endpoint.{EndpointValue}
+use Rattle.rtps_discovery.specs.Endpoint as endpoint
 use Rattle.rtps_discovery.specs.declared.endpoint.Side.{Side}
-use Rattle.rtps_discovery.specs.declared.endpoint.Side.TheVariants.{Writer, Reader}
-use Rattle.rtps_who.specs.Samples.{NodeValue}
+use Rattle.rtps_who.specs.Samples as samples
 use Rattle.rtps_who.specs.declared.service.Service.{Service}
-use Rattle.rtps_who.specs.declared.service.Service.TheVariants.{One, Several}
 
 -- a topic begins with three octets, ends so, and has something between
 abbrev pub is_between : (begins ends topic : List ℕ) → Bool
@@ -20,11 +18,11 @@ between begins ends topic = if is_between begins ends topic then Some (take (len
 
 -- the node whose service has a topic
 abbrev pub asked_in : Side → List ℕ → Option (List ℕ)
-asked_in Reader topic = between (codes "rq/") (codes "/get_parametersRequest") topic
-asked_in Writer topic = between (codes "rr/") (codes "/get_parametersReply") topic
+asked_in Side.Reader topic = between (codes "rq/") (codes "/get_parametersRequest") topic
+asked_in Side.Writer topic = between (codes "rr/") (codes "/get_parametersReply") topic
 
 -- the node whose service an endpoint is of
-abbrev pub service_of : EndpointValue → Option (List ℕ)
+abbrev pub service_of : endpoint.EndpointValue → Option (List ℕ)
 service_of endpoint = asked_in endpoint.side endpoint.topic
 
 -- the names by the services of a participant: one, or several
@@ -34,8 +32,8 @@ pub data NamesValue : Type 0 where
 
 -- what those of the code stand for
 abbrev pub service_value : Service → NamesValue
-service_value (One name) = OneName name.now
-service_value Several = SeveralNames
+service_value (Service.One name) = OneName name.now
+service_value Service.Several = SeveralNames
 
 -- with one name more
 abbrev pub with_name : Option NamesValue → List ℕ → Option NamesValue
@@ -48,7 +46,7 @@ abbrev pub names_of : List (List ℕ) → Option NamesValue
 names_of names = fold with_name None names
 
 -- the node of one name
-abbrev pub node_by : Option NamesValue → Option NodeValue
+abbrev pub node_by : Option NamesValue → Option samples.NodeValue
 node_by (Some (OneName name)) = Some (record { namespace = codes "/"; name = name })
 node_by _ = None
 

@@ -9,13 +9,12 @@ use Rattle.std.specs.Option.{option_map}
 use Rattle.rtps_ids.specs.declared.identity.EntityId.{EntityId}
 use Rattle.rtps_ids.specs.declared.identity.Guid.{Guid}
 use Rattle.rtps_ids.specs.declared.identity.GuidPrefix.{GuidPrefix}
-use Rattle.rtps_receiver.specs.Values.{ActBodyValue, ActValue}
-use Rattle.rtps_receiver.specs.Values.ActBodyValue.{Data, DataFrag}
-use Rattle.rtps_discovery.specs.GuidOrder.{guid_cmp}
-use Rattle.rtps_discovery.specs.Notice.{whole_payload}
-use Rattle.rtps_who.specs.Introducing.{is_teller_among, prefix_cmp}
-use Rattle.rtps_who.specs.Listings.{last_listed, listings_among}
-use Rattle.rtps_who.specs.Samples.{NodeValue, SampleValue, node_value, sample_of, sample_value}
+use Rattle.rtps_receiver.specs.Values as values
+use Rattle.rtps_discovery.specs.GuidOrder as guid_order
+use Rattle.rtps_discovery.specs.Notice as notice
+use Rattle.rtps_who.specs.Introducing as introducing
+use Rattle.rtps_who.specs.Listings as listings
+use Rattle.rtps_who.specs.Samples as samples
 use Rattle.rtps_who.specs.declared.told_nodes.ToldNodes.{ToldNodes}
 
 -- a sample, with the entity of its writer
@@ -23,9 +22,9 @@ abbrev pub sent_by : EntityId → Option (List ℕ) → Option (EntityId × List
 sent_by writer sample = option_map (λ octets. (writer, octets)) sample
 
 -- the sample that an act has
-abbrev pub sent_in : ActBodyValue → Option (EntityId × List ℕ)
-sent_in (Data value) = sent_by value.writer (whole_payload value.payload)
-sent_in (DataFrag value) = sent_by value.writer (option_and_then whole_payload value.told)
+abbrev pub sent_in : values.ActBodyValue → Option (EntityId × List ℕ)
+sent_in (values.ActBodyValue.Data value) = sent_by value.writer (notice.whole_payload value.payload)
+sent_in (values.ActBodyValue.DataFrag value) = sent_by value.writer (option_and_then notice.whole_payload value.told)
 sent_in _ = None
 
 -- the writer of an act
@@ -33,35 +32,35 @@ abbrev pub writer_of : GuidPrefix → EntityId → Guid
 writer_of source entity = record { prefix = source; entity = entity }
 
 -- the nodes that a sample of this participant tells, if its writer is one that tells of nodes
-abbrev pub nodes_sent : List ActValue → GuidPrefix → EntityId × List ℕ → Option (GuidPrefix × SampleValue)
+abbrev pub nodes_sent : List values.ActValue → GuidPrefix → EntityId × List ℕ → Option (GuidPrefix × samples.SampleValue)
 nodes_sent announcing source sent =
-    if is_teller_among announcing (writer_of source sent.0) then option_map (λ sample. (source, sample)) (sample_of sent.1) else None
+    if introducing.is_teller_among announcing (writer_of source sent.0) then option_map (λ sample. (source, sample)) (samples.sample_of sent.1) else None
 
 -- the participant whose nodes an act tells, and those nodes
-abbrev pub nodes_told : List ActValue → ActValue → Option (GuidPrefix × SampleValue)
+abbrev pub nodes_told : List values.ActValue → values.ActValue → Option (GuidPrefix × samples.SampleValue)
 nodes_told announcing act = option_and_then (nodes_sent announcing act.source) (sent_in act.body)
 
 -- what is told last of a prefix
 abbrev pub last_of : {X : Type 0} → GuidPrefix → List (GuidPrefix × X) → Option X
-last_of prefix told = lookup (is_at (prefix_cmp prefix)) (reverse told)
+last_of prefix told = lookup (is_at (introducing.prefix_cmp prefix)) (reverse told)
 
 -- the nodes that acts tell last of a participant
-abbrev pub nodes_by : List ActValue → List ActValue → GuidPrefix → Option SampleValue
+abbrev pub nodes_by : List values.ActValue → List values.ActValue → GuidPrefix → Option samples.SampleValue
 nodes_by announcing acts prefix = last_of prefix (filter_map (nodes_told announcing) acts)
 
 -- the node that acts tell last to have an endpoint
-abbrev pub listed_by : List ActValue → List ActValue → Guid → Option NodeValue
-listed_by announcing acts guid = last_listed guid (listings_among (filter_map (nodes_told announcing) acts))
+abbrev pub listed_by : List values.ActValue → List values.ActValue → Guid → Option samples.NodeValue
+listed_by announcing acts guid = listings.last_listed guid (listings.listings_among (filter_map (nodes_told announcing) acts))
 
 -- the sample of a participant as it is kept
-abbrev pub sample_kept : ToldNodes → GuidPrefix → Option SampleValue
-sample_kept told prefix = option_map sample_value (lookup (is_at (prefix_cmp prefix)) told.samples.entries)
+abbrev pub sample_kept : ToldNodes → GuidPrefix → Option samples.SampleValue
+sample_kept told prefix = option_map samples.sample_value (lookup (is_at (introducing.prefix_cmp prefix)) told.samples.entries)
 
 -- and the node of an endpoint
-abbrev pub listing_kept : ToldNodes → Guid → Option NodeValue
-listing_kept told guid = option_map node_value (lookup (is_at (guid_cmp guid)) told.listed.entries)
+abbrev pub listing_kept : ToldNodes → Guid → Option samples.NodeValue
+listing_kept told guid = option_map samples.node_value (lookup (is_at (guid_order.guid_cmp guid)) told.listed.entries)
 
 -- what is kept is what these acts tell last, where those announce
-pub record IsToldBy (announcing acts : List ActValue) (told : ToldNodes) : Type 0 where
+pub record IsToldBy (announcing acts : List values.ActValue) (told : ToldNodes) : Type 0 where
   pub samples : (prefix : GuidPrefix) → sample_kept told prefix ≡ nodes_by announcing acts prefix
   pub listed : (guid : Guid) → listing_kept told guid ≡ listed_by announcing acts guid

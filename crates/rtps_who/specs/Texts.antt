@@ -4,18 +4,18 @@ use Rattle.std.specs.Prelude.{ℕ, ◌+◌, ◌-◌, ◌*◌, ◌/◌, ◌==◌,
 use Rattle.std.specs.Cmp.Lexicographic.{pointwise}
 use Rattle.std.specs.Option.{option_map}
 use Rattle.rtps_ids.specs.declared.order.Order.{Order}
-use Rattle.rtps_params.specs.Values.{text_of, text_size, u32_of}
-use Rattle.rtps_who.specs.Items.{all_in}
+use Rattle.rtps_params.specs.Values as values
+use Rattle.rtps_who.specs.Items as items
 use Rattle.rtps_who.specs.Steps.{◌>>=◌}
-use Rattle.rtps_who.specs.declared.layout.sequence.TheConstants.{ALIGNMENT, COUNT_SIZE, LENGTH_SIZE}
+use Rattle.rtps_who.specs.declared.layout.sequence.TheConstants as sequence
 
 -- how many octets a text at the beginning takes, up to where the next item begins
 abbrev pub text_room : Order → List ℕ → ℕ
-text_room order octets = (LENGTH_SIZE + text_size order octets + (ALIGNMENT - 1)) / ALIGNMENT * ALIGNMENT
+text_room order octets = (sequence.LENGTH_SIZE + values.text_size order octets + (sequence.ALIGNMENT - 1)) / sequence.ALIGNMENT * sequence.ALIGNMENT
 
 -- the text at the beginning, and what is from the next item on
 abbrev pub front_text : Order → List ℕ → Option (List ℕ × List ℕ)
-front_text order octets = option_map (λ text. (text, drop (text_room order octets) octets)) (text_of order octets)
+front_text order octets = option_map (λ text. (text, drop (text_room order octets) octets)) (values.text_of order octets)
 
 -- a name and a value
 pub record PropertyValue : Type 0 where
@@ -32,8 +32,8 @@ front_property order octets = do
 -- the properties of a list, if all of them can be read; what is behind them is ignored
 abbrev pub properties_of : Order → List ℕ → Option (List PropertyValue)
 properties_of order value = do
-  count ← u32_of order value
-  all ← all_in (front_property order) count (drop COUNT_SIZE value)
+  count ← values.u32_of order value
+  all ← items.all_in (front_property order) count (drop sequence.COUNT_SIZE value)
   Some all.0
 
 -- a property of this name

@@ -1,5 +1,4 @@
-ghost use Rattle.std.specs.Prelude.{◌≡◌, ◌+◌, ◌-◌, ◌*◌, ◌^◌, ◌<◌, SomeIff, true};
-ghost use Rattle.rtps_who.specs.Digits.{digit_more};
+ghost use Rattle.std.specs.Prelude.{◌≡◌, ◌^◌, ◌<◌, SomeIff, true};
 ghost use Rattle.rtps_who.specs.Digits as digits_spec;
 
 use crate::layout::mark::{NINE, ZERO};
@@ -14,7 +13,7 @@ fn is_digit(octet: u8) -> bool
 /// A number with one digit more, if it is below 2^32.
 fn with_digit(value: u32, digit: u8) -> Option<u32>
     requires { digits_spec.is_digit digit ≡ true }
-    ensures { SomeIff result (digit_more value digit < 2 ^ 32) (digit_more value digit) }
+    ensures { SomeIff result (digits_spec.digit_more value digit < 2 ^ 32) (digits_spec.digit_more value digit) }
 {
     let more = u64::from(value) * 10 + u64::from(digit - ZERO);
     u32::try_from(more).ok()

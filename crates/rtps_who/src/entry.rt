@@ -1,7 +1,6 @@
 ghost use Rattle.std.specs.Prelude.{◌≡◌, OnOk};
 ghost use Rattle.std.specs.Option.{option_map};
-ghost use Rattle.rtps_who.specs.Listings.{Lists, listings_by};
-ghost use Rattle.rtps_who.specs.Samples.{entry_value};
+ghost use Rattle.rtps_who.specs.Listings as listings;
 ghost use Rattle.rtps_who.specs.Samples as samples;
 
 use crate::gids::{Gids, Width, front_gids};
@@ -25,7 +24,7 @@ impl<'a> Entry<'a> {
         prefix: GuidPrefix,
         listed: &mut BTreeMap<Guid, Node<'a>>,
     ) -> Result<(), Memory>
-        ensures { OnOk result (Lists listed.old.entries listed.new.entries (listings_by prefix (entry_value self.now))) }
+        ensures { OnOk result (listings.Lists listed.old.entries listed.new.entries (listings.listings_by prefix (samples.entry_value self.now))) }
     {
         self.readers.list(prefix, self.node, listed)?;
         self.writers.list(prefix, self.node, listed)
@@ -34,7 +33,7 @@ impl<'a> Entry<'a> {
 
 /// The node at the beginning of octets, and what is behind it. None if it cannot be read.
 pub(crate) fn front_entry(octets: &[u8], order: Order, width: Width) -> Option<(Entry<'_>, &[u8])>
-    ensures { option_map (λ found. (entry_value found.0, found.1.now)) result ≡ samples.front_entry order width octets.now }
+    ensures { option_map (λ found. (samples.entry_value found.0, found.1.now)) result ≡ samples.front_entry order width octets.now }
 {
     let (namespace, behind_namespace) = front_text(octets, order)?;
     let (name, behind_name) = front_text(behind_namespace, order)?;

@@ -1,8 +1,7 @@
 ghost use Rattle.std.specs.Prelude.{◌≡◌, ◌≤◌, ◌∷◌, [], OnOk, length, option_copied};
 ghost use Rattle.std.specs.Option.{option_map};
-ghost use Rattle.rtps_who.specs.Items.{rest_behind};
-ghost use Rattle.rtps_who.specs.Listings.{Lists, listings_of};
-ghost use Rattle.rtps_who.specs.Samples.{gids_value, node_value, size_of};
+ghost use Rattle.rtps_who.specs.Items as items;
+ghost use Rattle.rtps_who.specs.Listings as listings;
 ghost use Rattle.rtps_who.specs.Samples as samples;
 
 use crate::layout::gid::{GUID_SIZE, WIDE_ROOM, WIDE_SIZE, ZEROS};
@@ -22,7 +21,7 @@ pub(crate) enum Width {
 impl Width {
     /// The size of a gid.
     pub(crate) fn size(self) -> usize
-        ensures { result ≡ size_of self }
+        ensures { result ≡ samples.size_of self }
     {
         match self {
             Width::Narrow => GUID_SIZE,
@@ -44,7 +43,7 @@ impl Width {
 
 /// Whether what is behind the GUID of a gid is as it has to be.
 fn is_filled(octets: &[u8], width: Width) -> bool
-    requires { size_of width ≤ length octets.now }
+    requires { samples.size_of width ≤ length octets.now }
     ensures { result ≡ samples.is_filled width octets.now }
 {
     match width {
@@ -66,7 +65,7 @@ fn front_gid(octets: &[u8], width: Width) -> Option<(Guid, &[u8])>
 
 /// What is behind so many gids, if all of them can be read.
 fn behind_gids(octets: &[u8], width: Width, count: u32) -> Option<&[u8]>
-    ensures { option_copied result ≡ rest_behind (samples.front_gid width) count octets.now }
+    ensures { option_copied result ≡ items.rest_behind (samples.front_gid width) count octets.now }
 {
     let mut rest = octets;
     for _ in 0..count {
@@ -92,7 +91,7 @@ impl Gids<'_> {
         node: Node<'n>,
         listed: &mut BTreeMap<Guid, Node<'n>>,
     ) -> Result<(), Memory>
-        ensures { OnOk result (Lists listed.old.entries listed.new.entries (listings_of prefix (node_value node.entry) (gids_value self.now))) }
+        ensures { OnOk result (listings.Lists listed.old.entries listed.new.entries (listings.listings_of prefix (samples.node_value node.entry) (samples.gids_value self.now))) }
     {
         let mut rest = self.octets;
         for _ in 0..self.count {
@@ -113,7 +112,7 @@ fn list_one<'n>(
     node: Node<'n>,
     guid: Guid,
 ) -> Result<(), Memory>
-    ensures { OnOk result (Lists listed.old.entries listed.new.entries (listings_of prefix (node_value node.entry) (guid ∷ []))) }
+    ensures { OnOk result (listings.Lists listed.old.entries listed.new.entries (listings.listings_of prefix (samples.node_value node.entry) (guid ∷ []))) }
 {
     if guid.prefix == prefix {
         listed.insert(guid, node)?;
@@ -123,7 +122,7 @@ fn list_one<'n>(
 
 /// The list of gids at the beginning of octets, and what is behind it. None if it cannot be read.
 pub(crate) fn front_gids(octets: &[u8], order: Order, width: Width) -> Option<(Gids<'_>, &[u8])>
-    ensures { option_map (λ found. (gids_value found.0, found.1.now)) result ≡ samples.front_gids order width octets.now }
+    ensures { option_map (λ found. (samples.gids_value found.0, found.1.now)) result ≡ samples.front_gids order width octets.now }
 {
     let count = read_u32(octets, order)?;
     let octets = &octets[COUNT_SIZE..];

@@ -1,11 +1,10 @@
 ghost use Rattle.std.specs.Prelude.{◌≡◌, ◌++◌, ◌∷◌, [], List, OnOk};
 ghost use Rattle.std.specs.Option.{option_map};
-ghost use Rattle.rtps_receiver.specs.Values.{ActValue, spoken_value};
-ghost use Rattle.rtps_discovery.specs.Endpoint.{endpoint_value};
-ghost use Rattle.rtps_who.specs.Introducing.{IsIntroducedBy, KeepsEndpoint, KeepsService, KeepsTeller, is_teller_among, process_kept, services_kept};
+ghost use Rattle.rtps_receiver.specs.Values as values;
+ghost use Rattle.rtps_discovery.specs.Endpoint as endpoint_spec;
 ghost use Rattle.rtps_who.specs.Introducing as introducing;
-ghost use Rattle.rtps_who.specs.Processes.{process_value};
-ghost use Rattle.rtps_who.specs.Samples.{node_value};
+ghost use Rattle.rtps_who.specs.Processes as processes_spec;
+ghost use Rattle.rtps_who.specs.Samples as samples;
 
 use crate::node::Node;
 use crate::process::Process;
@@ -29,7 +28,7 @@ pub struct Introductions<'a> {
 impl<'a> Introductions<'a> {
     /// That of no acts. It takes no memory.
     pub fn new(alloc: Global) -> Introductions<'a>
-        ensures { IsIntroducedBy [] result }
+        ensures { introducing.IsIntroducedBy [] result }
     {
         Introductions {
             processes: BTreeMap::new(alloc),
@@ -41,7 +40,7 @@ impl<'a> Introductions<'a> {
     /// Keeps what an act announces. An act that announces nothing, or has a fault, changes nothing. After `Memory` what is kept is of no
     /// use.
     pub fn note(&mut self, act: &Spoken<'a>) -> Result<(), Memory>
-        ensures { OnOk result ((acts : List ActValue) → IsIntroducedBy acts self.old → IsIntroducedBy (acts ++ spoken_value act.now ∷ []) self.new) }
+        ensures { OnOk result ((acts : List values.ActValue) → introducing.IsIntroducedBy acts self.old → introducing.IsIntroducedBy (acts ++ values.spoken_value act.now ∷ []) self.new) }
     {
         if let Some(endpoint) = announced_endpoint(act) {
             return self.note_endpoint(&endpoint);
@@ -54,7 +53,7 @@ impl<'a> Introductions<'a> {
 
     /// Keeps what an endpoint says. After `Memory` what is kept is of no use.
     fn note_endpoint(&mut self, endpoint: &Endpoint<'a>) -> Result<(), Memory>
-        ensures { OnOk result (KeepsEndpoint self.old self.new (endpoint_value endpoint.now)) }
+        ensures { OnOk result (introducing.KeepsEndpoint self.old self.new (endpoint_spec.endpoint_value endpoint.now)) }
     {
         note_teller(&mut self.tellers, endpoint)?;
         note_service(&mut self.services, endpoint)
@@ -62,7 +61,7 @@ impl<'a> Introductions<'a> {
 
     /// The process of a participant. Unknown where it is not announced.
     pub(crate) fn process(&self, participant: Guid) -> Process<'a>
-        ensures { process_value result ≡ process_kept self.now participant }
+        ensures { processes_spec.process_value result ≡ introducing.process_kept self.now participant }
     {
         match self.processes.get(&participant) {
             Some(process) => *process,
@@ -72,14 +71,14 @@ impl<'a> Introductions<'a> {
 
     /// Whether a writer is one that tells of nodes.
     pub(crate) fn tells_nodes(&self, writer: Guid) -> bool
-        ensures { (acts : List ActValue) → IsIntroducedBy acts self.now → result ≡ is_teller_among acts writer }
+        ensures { (acts : List values.ActValue) → introducing.IsIntroducedBy acts self.now → result ≡ introducing.is_teller_among acts writer }
     {
         self.tellers.contains(&writer)
     }
 
     /// The node that the parameter services of a participant name, if they name one.
     pub(crate) fn node_by_services(&self, prefix: GuidPrefix) -> Option<Node<'a>>
-        ensures { option_map node_value result ≡ services_kept self.now prefix }
+        ensures { option_map samples.node_value result ≡ introducing.services_kept self.now prefix }
     {
         node_by_service(self.services.get(&prefix).copied())
     }
@@ -87,7 +86,7 @@ impl<'a> Introductions<'a> {
 
 /// Whether an endpoint is a writer that tells of nodes.
 pub fn tells_nodes(endpoint: &Endpoint<'_>) -> bool
-    ensures { result ≡ introducing.tells_nodes (endpoint_value endpoint.now) }
+    ensures { result ≡ introducing.tells_nodes (endpoint_spec.endpoint_value endpoint.now) }
 {
     endpoint.side == Side::Writer
         && endpoint.topic == b"ros_discovery_info".as_slice()
@@ -96,7 +95,7 @@ pub fn tells_nodes(endpoint: &Endpoint<'_>) -> bool
 
 /// Keeps an endpoint that tells of nodes. After `Memory` what is kept is of no use.
 fn note_teller(tellers: &mut BTreeSet<Guid>, endpoint: &Endpoint<'_>) -> Result<(), Memory>
-    ensures { OnOk result (KeepsTeller tellers.old tellers.new (endpoint_value endpoint.now)) }
+    ensures { OnOk result (introducing.KeepsTeller tellers.old tellers.new (endpoint_spec.endpoint_value endpoint.now)) }
 {
     if !tells_nodes(endpoint) {
         return Ok(());
@@ -110,7 +109,7 @@ fn note_service<'a>(
     services: &mut BTreeMap<GuidPrefix, Service<'a>>,
     endpoint: &Endpoint<'a>,
 ) -> Result<(), Memory>
-    ensures { OnOk result (KeepsService services.old.entries services.new.entries (endpoint_value endpoint.now)) }
+    ensures { OnOk result (introducing.KeepsService services.old.entries services.new.entries (endpoint_spec.endpoint_value endpoint.now)) }
 {
     let Some(name) = service_of(endpoint) else {
         return Ok(());
@@ -123,7 +122,7 @@ fn note_service<'a>(
 
 /// The participant that an act announces, and its process.
 fn process_told<'a>(act: &Spoken<'a>) -> Option<(Guid, Process<'a>)>
-    ensures { option_map (λ told. (told.0, process_value told.1)) result ≡ introducing.process_told (spoken_value act.now) }
+    ensures { option_map (λ told. (told.0, processes_spec.process_value told.1)) result ≡ introducing.process_told (values.spoken_value act.now) }
 {
     let guid = announced_participant(act)?;
     let process = match list_in(payload_of(act)) {

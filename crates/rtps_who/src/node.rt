@@ -1,5 +1,4 @@
 ghost use Rattle.std.specs.Prelude.{◌≡◌, IfOk};
-ghost use Rattle.rtps_who.specs.Samples.{node_value};
 ghost use Rattle.rtps_who.specs.Samples as samples;
 
 use rtps_ids::Memory;
@@ -15,7 +14,7 @@ pub struct Node<'a> {
 impl Node<'_> {
     /// Its namespace, a slash unless that ends with one, and its name.
     pub fn full_name(&self, alloc: Global) -> Result<Vec<u8>, Memory>
-        ensures { IfOk result (λ name. name.items ≡ samples.full_name (node_value self.now)) }
+        ensures { IfOk result (λ name. name.items ≡ samples.full_name (samples.node_value self.now)) }
     {
         let mut full = Vec::new(alloc);
         full.extend_from_slice(self.namespace)?;

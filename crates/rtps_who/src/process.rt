@@ -1,10 +1,9 @@
 ghost use Rattle.std.specs.Prelude.{◌≡◌, option_and_then, option_copied};
-ghost use Rattle.rtps_discovery.specs.Fields.{fields_value};
-ghost use Rattle.rtps_who.specs.Processes.{fast_host_among, is_nothing, process_in, process_value, unknown_process, unless};
+ghost use Rattle.rtps_discovery.specs.Fields as fields;
 ghost use Rattle.rtps_who.specs.Processes as processes;
 ghost use Rattle.rtps_who.specs.Digits as digits;
-ghost use Rattle.rtps_who.specs.Texts.{value_among};
-ghost use Rattle.rtps_who.specs.Views.{properties_value};
+ghost use Rattle.rtps_who.specs.Texts as texts;
+ghost use Rattle.rtps_who.specs.Views as views;
 
 use crate::digits::number_in;
 use crate::layout::mark::{COLON, SEMICOLON};
@@ -34,7 +33,7 @@ pub struct Process<'a> {
 impl Process<'static> {
     /// That of a participant of which nothing is known.
     pub(crate) fn unknown() -> Process<'static>
-        ensures { process_value result ≡ unknown_process }
+        ensures { processes.process_value result ≡ processes.unknown_process }
     {
         Process {
             host: None,
@@ -49,7 +48,7 @@ impl Process<'static> {
 impl<'a> Process<'a> {
     /// What a parameter list announces.
     pub(crate) fn of(list: &ParamList<'a>) -> Process<'a>
-        ensures { process_value result ≡ process_in (fields_value list.now) }
+        ensures { processes.process_value result ≡ processes.process_in (fields.fields_value list.now) }
     {
         let properties = properties_in(list);
         Process {
@@ -64,7 +63,7 @@ impl<'a> Process<'a> {
 
 /// The properties in a list.
 fn properties_in<'a>(list: &ParamList<'a>) -> Properties<'a>
-    ensures { properties_value result ≡ processes.properties_in (fields_value list.now) }
+    ensures { views.properties_value result ≡ processes.properties_in (fields.fields_value list.now) }
 {
     let Some(value) = list.first(pid::PROPERTY_LIST) else {
         return Properties::NONE;
@@ -74,7 +73,7 @@ fn properties_in<'a>(list: &ParamList<'a>) -> Properties<'a>
 
 /// The value of the first property of a name, unless it is empty.
 fn text_of<'a>(properties: &Properties<'a>, name: &[u8]) -> Option<&'a [u8]>
-    ensures { option_copied result ≡ unless is_nothing (value_among name.now (properties_value properties.now)) }
+    ensures { option_copied result ≡ processes.unless processes.is_nothing (texts.value_among name.now (views.properties_value properties.now)) }
 {
     let text = properties.get(name)?;
     if text.is_empty() {
@@ -95,7 +94,7 @@ fn up_to_colon(text: &[u8]) -> &[u8]
 
 /// The name of the host, up to what Fast DDS writes behind a colon.
 fn fast_host<'a>(properties: &Properties<'a>) -> Option<&'a [u8]>
-    ensures { option_copied result ≡ fast_host_among (properties_value properties.now) }
+    ensures { option_copied result ≡ processes.fast_host_among (views.properties_value properties.now) }
 {
     let host = up_to_colon(properties.get(b"fastdds.physical_data.host")?);
     if host.is_empty() {
@@ -106,7 +105,7 @@ fn fast_host<'a>(properties: &Properties<'a>) -> Option<&'a [u8]>
 
 /// The name of the host.
 fn host_among<'a>(properties: &Properties<'a>) -> Option<&'a [u8]>
-    ensures { option_copied result ≡ processes.host_among (properties_value properties.now) }
+    ensures { option_copied result ≡ processes.host_among (views.properties_value properties.now) }
 {
     match text_of(properties, b"__Hostname") {
         Some(host) => Some(host),
@@ -116,21 +115,21 @@ fn host_among<'a>(properties: &Properties<'a>) -> Option<&'a [u8]>
 
 /// The program that runs in the process.
 fn program_among<'a>(properties: &Properties<'a>) -> Option<&'a [u8]>
-    ensures { option_copied result ≡ processes.program_among (properties_value properties.now) }
+    ensures { option_copied result ≡ processes.program_among (views.properties_value properties.now) }
 {
     text_of(properties, b"__ProcessName")
 }
 
 /// The number that the first property of a name spells.
 fn number_of(properties: &Properties<'_>, name: &[u8]) -> Option<u32>
-    ensures { result ≡ option_and_then digits.number_in (value_among name.now (properties_value properties.now)) }
+    ensures { result ≡ option_and_then digits.number_in (texts.value_among name.now (views.properties_value properties.now)) }
 {
     number_in(properties.get(name)?)
 }
 
 /// The id of the process.
 fn pid_among(properties: &Properties<'_>) -> Option<u32>
-    ensures { result ≡ processes.pid_among (properties_value properties.now) }
+    ensures { result ≡ processes.pid_among (views.properties_value properties.now) }
 {
     match number_of(properties, b"__Pid") {
         Some(pid) => Some(pid),
@@ -147,7 +146,7 @@ fn is_given(text: &[u8]) -> bool
 
 /// The name of the participant.
 fn name_in<'a>(list: &ParamList<'a>) -> Option<&'a [u8]>
-    ensures { option_copied result ≡ processes.name_in (fields_value list.now) }
+    ensures { option_copied result ≡ processes.name_in (fields.fields_value list.now) }
 {
     let name = read_text(list.first(pid::ENTITY_NAME)?, list.order())?;
     if is_given(name) {
@@ -191,7 +190,7 @@ fn is_root(text: &[u8]) -> bool
 
 /// The enclave of the participant.
 fn enclave_in<'a>(list: &ParamList<'a>) -> Option<&'a [u8]>
-    ensures { option_copied result ≡ processes.enclave_in (fields_value list.now) }
+    ensures { option_copied result ≡ processes.enclave_in (fields.fields_value list.now) }
 {
     let octets = octets_of(list.first(pid::USER_DATA)?, list.order())?;
     let enclave = enclave_among(octets)?;

@@ -1,9 +1,8 @@
 ghost use Rattle.std.specs.Prelude.{◌≡◌, option_copied};
 ghost use Rattle.std.specs.Option.{is_some, option_map};
-ghost use Rattle.rtps_who.specs.Items.{rest_behind};
-ghost use Rattle.rtps_who.specs.Texts.{properties_of, value_among};
+ghost use Rattle.rtps_who.specs.Items as items;
 ghost use Rattle.rtps_who.specs.Texts as texts;
-ghost use Rattle.rtps_who.specs.Views.{properties_value, property_value};
+ghost use Rattle.rtps_who.specs.Views as views;
 
 use crate::layout::sequence::COUNT_SIZE;
 use crate::texts::front_text;
@@ -27,7 +26,7 @@ pub(crate) struct Properties<'a> {
 
 /// The property at the beginning of octets, and what is from the next one on. None if it cannot be read.
 fn front_property(octets: &[u8], order: Order) -> Option<(Property<'_>, &[u8])>
-    ensures { option_map (λ found. (property_value found.0, found.1.now)) result ≡ texts.front_property order octets.now }
+    ensures { option_map (λ found. (views.property_value found.0, found.1.now)) result ≡ texts.front_property order octets.now }
 {
     let (name, behind) = front_text(octets, order)?;
     let (value, rest) = front_text(behind, order)?;
@@ -36,7 +35,7 @@ fn front_property(octets: &[u8], order: Order) -> Option<(Property<'_>, &[u8])>
 
 /// Whether so many properties are at the beginning of octets.
 fn are_properties(octets: &[u8], order: Order, count: u32) -> bool
-    ensures { result ≡ is_some (rest_behind (texts.front_property order) count octets.now) }
+    ensures { result ≡ is_some (items.rest_behind (texts.front_property order) count octets.now) }
 {
     let mut rest = octets;
     for _ in 0..count {
@@ -58,7 +57,7 @@ impl<'a> Properties<'a> {
 
     /// The properties in a value, or None if one of them cannot be read. What is behind them is ignored.
     pub(crate) fn read(value: &'a [u8], order: Order) -> Option<Properties<'a>>
-        ensures { option_map properties_value result ≡ properties_of order value.now }
+        ensures { option_map views.properties_value result ≡ texts.properties_of order value.now }
     {
         let count = read_u32(value, order)?;
         let octets = &value[COUNT_SIZE..];
@@ -74,7 +73,7 @@ impl<'a> Properties<'a> {
 
     /// The value of the first property of a name.
     pub(crate) fn get(&self, name: &[u8]) -> Option<&'a [u8]>
-        ensures { option_copied result ≡ value_among name.now (properties_value self.now) }
+        ensures { option_copied result ≡ texts.value_among name.now (views.properties_value self.now) }
     {
         let mut rest = self.octets;
         for _ in 0..self.count {

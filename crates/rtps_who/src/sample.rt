@@ -1,8 +1,7 @@
-ghost use Rattle.std.specs.Prelude.{◌≡◌, ◌≤◌, IfOk, OnOk, length, map, option_copied};
+ghost use Rattle.std.specs.Prelude.{◌≡◌, IfOk, OnOk, map, option_copied};
 ghost use Rattle.std.specs.Option.{option_map};
-ghost use Rattle.rtps_who.specs.Items.{items_in, rest_behind};
-ghost use Rattle.rtps_who.specs.Listings.{Lists, listings_in};
-ghost use Rattle.rtps_who.specs.Samples.{node_value, nodes_among, only_among, sample_of, sample_value};
+ghost use Rattle.rtps_who.specs.Items as items;
+ghost use Rattle.rtps_who.specs.Listings as listings;
 ghost use Rattle.rtps_who.specs.Samples as samples;
 
 use crate::entry::front_entry;
@@ -29,7 +28,7 @@ pub(crate) struct Sample<'a> {
 
 /// The node, where there is one alone.
 fn only_in(octets: &[u8], order: Order, width: Width, count: u32) -> Option<Node<'_>>
-    ensures { option_map node_value result ≡ only_among count (items_in (samples.front_entry order width) count octets.now) }
+    ensures { option_map samples.node_value result ≡ samples.only_among count (items.items_in (samples.front_entry order width) count octets.now) }
 {
     if count != 1 {
         return None;
@@ -40,7 +39,7 @@ fn only_in(octets: &[u8], order: Order, width: Width, count: u32) -> Option<Node
 
 /// What is behind so many nodes, if all of them can be read.
 fn behind_entries(octets: &[u8], order: Order, width: Width, count: u32) -> Option<&[u8]>
-    ensures { option_copied result ≡ rest_behind (samples.front_entry order width) count octets.now }
+    ensures { option_copied result ≡ items.rest_behind (samples.front_entry order width) count octets.now }
 {
     let mut rest = octets;
     for _ in 0..count {
@@ -69,7 +68,7 @@ fn order_in(payload: &[u8]) -> Option<Order>
 
 /// The nodes in what is behind a participant's gid, or None if they cannot be read.
 fn nodes_in(octets: &[u8], order: Order, width: Width) -> Option<Sample<'_>>
-    ensures { option_map sample_value result ≡ samples.nodes_in order width octets.now }
+    ensures { option_map samples.sample_value result ≡ samples.nodes_in order width octets.now }
 {
     let count = read_u32(octets, order)?;
     let octets = &octets[COUNT_SIZE..];
@@ -89,7 +88,7 @@ fn nodes_in(octets: &[u8], order: Order, width: Width) -> Option<Sample<'_>>
 impl<'a> Sample<'a> {
     /// The sample in a payload, or None if it is of another form. It takes no memory.
     pub(crate) fn read(payload: &'a [u8]) -> Option<Sample<'a>>
-        ensures { option_map sample_value result ≡ sample_of payload.now }
+        ensures { option_map samples.sample_value result ≡ samples.sample_of payload.now }
     {
         let order = order_in(payload)?;
         let body = &payload[header::SIZE..];
@@ -106,7 +105,7 @@ impl<'a> Sample<'a> {
         prefix: GuidPrefix,
         listed: &mut BTreeMap<Guid, Node<'a>>,
     ) -> Result<(), Memory>
-        ensures { OnOk result (Lists listed.old.entries listed.new.entries (listings_in prefix (sample_value self.now))) }
+        ensures { OnOk result (listings.Lists listed.old.entries listed.new.entries (listings.listings_in prefix (samples.sample_value self.now))) }
     {
         let mut rest = self.octets;
         for _ in 0..self.count {
@@ -121,7 +120,7 @@ impl<'a> Sample<'a> {
 
     /// All its nodes.
     pub(crate) fn nodes(&self, alloc: Global) -> Result<Vec<Node<'a>>, AllocError>
-        ensures { IfOk result (λ nodes. map node_value nodes.items ≡ nodes_among (sample_value self.now)) }
+        ensures { IfOk result (λ nodes. map samples.node_value nodes.items ≡ samples.nodes_among (samples.sample_value self.now)) }
     {
         let mut nodes = Vec::new(alloc);
         let mut rest = self.octets;

@@ -1,8 +1,7 @@
 ghost use Rattle.std.specs.Prelude.{◌≡◌, Some, length, option_copied};
 ghost use Rattle.std.specs.Option.{option_map};
-ghost use Rattle.rtps_discovery.specs.Endpoint.{endpoint_value};
-ghost use Rattle.rtps_who.specs.Samples.{node_value};
-ghost use Rattle.rtps_who.specs.Services.{node_by, service_value, with_name};
+ghost use Rattle.rtps_discovery.specs.Endpoint as endpoint_spec;
+ghost use Rattle.rtps_who.specs.Samples as samples;
 ghost use Rattle.rtps_who.specs.Services as services_spec;
 
 use crate::node::Node;
@@ -28,7 +27,7 @@ fn between<'a>(topic: &'a [u8], begins: &[u8], ends: &[u8]) -> Option<&'a [u8]>
 
 /// The name of the node whose parameter service an endpoint is of.
 pub(crate) fn service_of<'a>(endpoint: &Endpoint<'a>) -> Option<&'a [u8]>
-    ensures { option_copied result ≡ services_spec.service_of (endpoint_value endpoint.now) }
+    ensures { option_copied result ≡ services_spec.service_of (endpoint_spec.endpoint_value endpoint.now) }
 {
     match endpoint.side {
         Side::Reader => between(endpoint.topic, b"rq/", b"/get_parametersRequest"),
@@ -38,7 +37,7 @@ pub(crate) fn service_of<'a>(endpoint: &Endpoint<'a>) -> Option<&'a [u8]>
 
 /// What names come to with one name more.
 pub(crate) fn with_name_more<'a>(kept: Option<Service<'a>>, name: &'a [u8]) -> Service<'a>
-    ensures { Some (service_value result) ≡ with_name (option_map service_value kept.entry) name.entry.now }
+    ensures { Some (services_spec.service_value result) ≡ services_spec.with_name (option_map services_spec.service_value kept.entry) name.entry.now }
 {
     match kept {
         None => Service::One(name),
@@ -55,7 +54,7 @@ pub(crate) fn with_name_more<'a>(kept: Option<Service<'a>>, name: &'a [u8]) -> S
 
 /// The node of one name.
 pub(crate) fn node_by_service(kept: Option<Service<'_>>) -> Option<Node<'_>>
-    ensures { option_map node_value result ≡ node_by (option_map service_value kept.entry) }
+    ensures { option_map samples.node_value result ≡ services_spec.node_by (option_map services_spec.service_value kept.entry) }
 {
     match kept {
         Some(Service::One(name)) => Some(Node {

@@ -1,11 +1,10 @@
 ghost use Rattle.std.specs.Prelude.{◌≡◌, ◌++◌, ◌∷◌, [], List, OnOk, option_and_then};
 ghost use Rattle.std.specs.Option.{option_map};
-ghost use Rattle.rtps_receiver.specs.Values.{ActValue, fragment_value, spoken_body_value, spoken_value};
-ghost use Rattle.rtps_wire.specs.Values.{payload_value};
-ghost use Rattle.rtps_discovery.specs.Notice.{whole_payload};
-ghost use Rattle.rtps_who.specs.Introducing.{IsIntroducedBy};
-ghost use Rattle.rtps_who.specs.Samples.{node_value, sample_value};
-ghost use Rattle.rtps_who.specs.Telling.{IsToldBy, listing_kept, sample_kept, sent_by};
+ghost use Rattle.rtps_receiver.specs.Values as receiver_values;
+ghost use Rattle.rtps_wire.specs.Values as wire_values;
+ghost use Rattle.rtps_discovery.specs.Notice as notice;
+ghost use Rattle.rtps_who.specs.Introducing as introducing;
+ghost use Rattle.rtps_who.specs.Samples as samples_spec;
 ghost use Rattle.rtps_who.specs.Telling as telling;
 
 use crate::introductions::Introductions;
@@ -27,7 +26,7 @@ pub struct ToldNodes<'a> {
 
 /// The octets of a whole payload, with the entity of its writer.
 fn whole<'a>(writer: EntityId, payload: &Payload<'a>) -> Option<(EntityId, &'a [u8])>
-    ensures { option_map (λ sent. (sent.0, sent.1.now)) result ≡ sent_by writer (whole_payload (payload_value payload.now)) }
+    ensures { option_map (λ sent. (sent.0, sent.1.now)) result ≡ telling.sent_by writer (notice.whole_payload (wire_values.payload_value payload.now)) }
 {
     match payload {
         Payload::Whole(octets) => Some((writer, octets)),
@@ -38,7 +37,7 @@ fn whole<'a>(writer: EntityId, payload: &Payload<'a>) -> Option<(EntityId, &'a [
 /// The sample that fragments were put together to, with the entity of its writer.
 fn told_whole<'a>(fragment: &FragmentBody<'a>) -> Option<(EntityId, &'a [u8])>
     ensures { option_map (λ sent. (sent.0, sent.1.now)) result
-        ≡ sent_by fragment.now.writer (option_and_then whole_payload (fragment_value fragment.now).told) }
+        ≡ telling.sent_by fragment.now.writer (option_and_then notice.whole_payload (receiver_values.fragment_value fragment.now).told) }
 {
     match &fragment.told {
         Some(payload) => whole(fragment.writer, payload),
@@ -48,7 +47,7 @@ fn told_whole<'a>(fragment: &FragmentBody<'a>) -> Option<(EntityId, &'a [u8])>
 
 /// The sample that an act has, with the entity of its writer.
 fn sent_in<'a>(body: &SpokenBody<'a>) -> Option<(EntityId, &'a [u8])>
-    ensures { option_map (λ sent. (sent.0, sent.1.now)) result ≡ telling.sent_in (spoken_body_value body.now) }
+    ensures { option_map (λ sent. (sent.0, sent.1.now)) result ≡ telling.sent_in (receiver_values.spoken_body_value body.now) }
 {
     match body {
         SpokenBody::Act(ActBody::Data(data)) => whole(data.writer, &data.payload),
@@ -59,8 +58,8 @@ fn sent_in<'a>(body: &SpokenBody<'a>) -> Option<(EntityId, &'a [u8])>
 
 /// The nodes that an act tells of the participant that sends it.
 fn nodes_told<'a>(introductions: &Introductions<'_>, act: &Spoken<'a>) -> Option<Sample<'a>>
-    ensures { (announcing : List ActValue) → IsIntroducedBy announcing introductions.now
-        → option_map (λ sample. (act.now.source, sample_value sample)) result ≡ telling.nodes_told announcing (spoken_value act.now) }
+    ensures { (announcing : List receiver_values.ActValue) → introducing.IsIntroducedBy announcing introductions.now
+        → option_map (λ sample. (act.now.source, samples_spec.sample_value sample)) result ≡ telling.nodes_told announcing (receiver_values.spoken_value act.now) }
 {
     let (entity, octets) = sent_in(&act.body)?;
     let prefix = act.source;
@@ -73,7 +72,7 @@ fn nodes_told<'a>(introductions: &Introductions<'_>, act: &Spoken<'a>) -> Option
 impl<'a> ToldNodes<'a> {
     /// Those of no acts. It takes no memory.
     pub fn new(alloc: Global) -> ToldNodes<'a>
-        ensures { (announcing : List ActValue) → IsToldBy announcing [] result }
+        ensures { (announcing : List receiver_values.ActValue) → telling.IsToldBy announcing [] result }
     {
         ToldNodes {
             samples: BTreeMap::new(alloc),
@@ -88,8 +87,8 @@ impl<'a> ToldNodes<'a> {
         introductions: &Introductions<'_>,
         act: &Spoken<'a>,
     ) -> Result<(), Memory>
-        ensures { OnOk result ((announcing acts : List ActValue) → IsIntroducedBy announcing introductions.now → IsToldBy announcing acts self.old
-            → IsToldBy announcing (acts ++ spoken_value act.now ∷ []) self.new) }
+        ensures { OnOk result ((announcing acts : List receiver_values.ActValue) → introducing.IsIntroducedBy announcing introductions.now → telling.IsToldBy announcing acts self.old
+            → telling.IsToldBy announcing (acts ++ receiver_values.spoken_value act.now ∷ []) self.new) }
     {
         let Some(sample) = nodes_told(introductions, act) else {
             return Ok(());
@@ -101,14 +100,14 @@ impl<'a> ToldNodes<'a> {
 
     /// The sample of a participant.
     pub(crate) fn sample(&self, prefix: GuidPrefix) -> Option<Sample<'a>>
-        ensures { option_map sample_value result ≡ sample_kept self.now prefix }
+        ensures { option_map samples_spec.sample_value result ≡ telling.sample_kept self.now prefix }
     {
         self.samples.get(&prefix).copied()
     }
 
     /// The node that listed an endpoint last.
     pub(crate) fn listing(&self, endpoint: Guid) -> Option<Node<'a>>
-        ensures { option_map node_value result ≡ listing_kept self.now endpoint }
+        ensures { option_map samples_spec.node_value result ≡ telling.listing_kept self.now endpoint }
     {
         self.listed.get(&endpoint).copied()
     }

@@ -1,10 +1,9 @@
 ghost use Rattle.std.specs.Prelude.{◌≡◌, IfOk, map};
 ghost use Rattle.std.specs.Option.{option_map};
-ghost use Rattle.rtps_who.specs.Naming.{Recorded, nodes_of_participant, title_value};
 ghost use Rattle.rtps_who.specs.Naming as naming;
-ghost use Rattle.rtps_who.specs.Processes.{process_value};
-ghost use Rattle.rtps_who.specs.Recorded.{IsWhoIn, node_in, node_of_end_in, nodes_in, only_in, process_in};
-ghost use Rattle.rtps_who.specs.Samples.{node_value};
+ghost use Rattle.rtps_who.specs.Processes as processes;
+ghost use Rattle.rtps_who.specs.Recorded as recorded_spec;
+ghost use Rattle.rtps_who.specs.Samples as samples;
 
 use crate::introductions::Introductions;
 use crate::node::Node;
@@ -24,7 +23,7 @@ pub struct Who<'a> {
 
 /// The title by a node, or else by a process.
 pub fn title_by<'a>(node: Option<Node<'a>>, process: &Process<'a>) -> Title<'a>
-    ensures { title_value result ≡ naming.title_by (option_map node_value node.entry) (process_value process.now) }
+    ensures { naming.title_value result ≡ naming.title_by (option_map samples.node_value node.entry) (processes.process_value process.now) }
 {
     if let Some(node) = node {
         return Title::Node(node);
@@ -41,16 +40,16 @@ pub fn title_by<'a>(node: Option<Node<'a>>, process: &Process<'a>) -> Title<'a>
 impl<'a> Who<'a> {
     /// The process of a participant. Unknown where it is not announced.
     pub fn process(&self, prefix: GuidPrefix) -> Process<'a>
-        ensures kept { process_value result ≡ process_in self.now prefix }
-        ensures told { (recorded : Recorded) → IsWhoIn recorded self.now → process_value result ≡ naming.process_of recorded prefix }
+        ensures kept { processes.process_value result ≡ recorded_spec.process_in self.now prefix }
+        ensures told { (recorded : naming.Recorded) → recorded_spec.IsWhoIn recorded self.now → processes.process_value result ≡ naming.process_of recorded prefix }
     {
         self.introductions.process(participant_of(prefix))
     }
 
     /// The node of a participant that has one alone.
     pub fn only_node(&self, prefix: GuidPrefix) -> Option<Node<'a>>
-        ensures kept { option_map node_value result ≡ only_in self.now prefix }
-        ensures told { (recorded : Recorded) → IsWhoIn recorded self.now → option_map node_value result ≡ naming.only_node recorded prefix }
+        ensures kept { option_map samples.node_value result ≡ recorded_spec.only_in self.now prefix }
+        ensures told { (recorded : naming.Recorded) → recorded_spec.IsWhoIn recorded self.now → option_map samples.node_value result ≡ naming.only_node recorded prefix }
     {
         match self.told.sample(prefix) {
             Some(sample) => sample.only,
@@ -60,8 +59,8 @@ impl<'a> Who<'a> {
 
     /// The nodes of a participant.
     pub fn nodes(&self, alloc: Global, prefix: GuidPrefix) -> Result<Vec<Node<'a>>, AllocError>
-        ensures kept { IfOk result (λ nodes. map node_value nodes.items ≡ nodes_in self.now prefix) }
-        ensures told { IfOk result (λ nodes. (recorded : Recorded) → IsWhoIn recorded self.now → map node_value nodes.items ≡ nodes_of_participant recorded prefix) }
+        ensures kept { IfOk result (λ nodes. map samples.node_value nodes.items ≡ recorded_spec.nodes_in self.now prefix) }
+        ensures told { IfOk result (λ nodes. (recorded : naming.Recorded) → recorded_spec.IsWhoIn recorded self.now → map samples.node_value nodes.items ≡ naming.nodes_of_participant recorded prefix) }
     {
         if let Some(sample) = self.told.sample(prefix) {
             return sample.nodes(alloc);
@@ -76,8 +75,8 @@ impl<'a> Who<'a> {
 
     /// The node of an endpoint: the one that had it in its lists last, or else the one that its participant has alone.
     pub fn node(&self, endpoint: Guid) -> Option<Node<'a>>
-        ensures kept { option_map node_value result ≡ node_in self.now endpoint }
-        ensures told { (recorded : Recorded) → IsWhoIn recorded self.now → option_map node_value result ≡ naming.node_of recorded endpoint }
+        ensures kept { option_map samples.node_value result ≡ recorded_spec.node_in self.now endpoint }
+        ensures told { (recorded : naming.Recorded) → recorded_spec.IsWhoIn recorded self.now → option_map samples.node_value result ≡ naming.node_of recorded endpoint }
     {
         match self.told.listing(endpoint) {
             Some(node) => Some(node),
@@ -87,8 +86,8 @@ impl<'a> Who<'a> {
 
     /// The node of an end, an endpoint or a participant: of a participant the one that it has alone.
     pub fn node_of_end(&self, end: Guid) -> Option<Node<'a>>
-        ensures kept { option_map node_value result ≡ node_of_end_in self.now end }
-        ensures told { (recorded : Recorded) → IsWhoIn recorded self.now → option_map node_value result ≡ naming.node_of_end recorded end }
+        ensures kept { option_map samples.node_value result ≡ recorded_spec.node_of_end_in self.now end }
+        ensures told { (recorded : naming.Recorded) → recorded_spec.IsWhoIn recorded self.now → option_map samples.node_value result ≡ naming.node_of_end recorded end }
     {
         if end.entity == participant_of(end.prefix).entity {
             self.only_node(end.prefix)
@@ -99,14 +98,14 @@ impl<'a> Who<'a> {
 
     /// The title of an endpoint: its node, else the program of its process, else the name of its participant.
     pub fn title(&self, endpoint: Guid) -> Title<'a>
-        ensures { (recorded : Recorded) → IsWhoIn recorded self.now → title_value result ≡ naming.title_of recorded endpoint }
+        ensures { (recorded : naming.Recorded) → recorded_spec.IsWhoIn recorded self.now → naming.title_value result ≡ naming.title_of recorded endpoint }
     {
         title_by(self.node(endpoint), &self.process(endpoint.prefix))
     }
 
     /// The title of a participant: its node where it has one alone, else as that of an endpoint.
     pub fn participant_title(&self, prefix: GuidPrefix) -> Title<'a>
-        ensures { (recorded : Recorded) → IsWhoIn recorded self.now → title_value result ≡ naming.participant_title recorded prefix }
+        ensures { (recorded : naming.Recorded) → recorded_spec.IsWhoIn recorded self.now → naming.title_value result ≡ naming.participant_title recorded prefix }
     {
         title_by(self.only_node(prefix), &self.process(prefix))
     }

@@ -4,20 +4,20 @@
 use Rattle.std.specs.Prelude.{ℕ, zero, suc, ℤ, ◌≡◌, ◌<◌, ◌≤◌, ◌+◌, ◌-◌, ◌*◌, ◌/◌, ◌==◌, ◌&&◌, bit_and, not, min, pos, int_lt, nat_le, Bool, List, [], ◌∷◌, length, take, drop, is_err, Option, Some, None, if◌then◌else◌}
 use Rattle.std.specs.Int.RustNames.{unsigned_abs}
 use Rattle.std.specs.Option.{option_map}
-use Rattle.rtps_ids.specs.Octets.{number_of, sequence_number_of}
+use Rattle.rtps_ids.specs.Octets as octets
 use Rattle.rtps_ids.specs.declared.identity.EntityId.{EntityId}
 use Rattle.rtps_ids.specs.declared.order.Order.{Order}
-use Rattle.rtps_params.specs.Reading.{list_end}
-use Rattle.rtps_params.specs.Lists.{ListValue, list_value}
-use Rattle.rtps_wire.specs.Data.{behind_fields, behind_qos, has_qos, octets_to_inline_qos, qos_of}
-use Rattle.rtps_wire.specs.Fields.{entity_at}
-use Rattle.rtps_wire.specs.Message.{body_octets, flags_of, order_of}
-use Rattle.rtps_wire.specs.Skipped.{begins_with}
+use Rattle.rtps_params.specs.Reading as reading
+use Rattle.rtps_params.specs.Lists as lists
+use Rattle.rtps_wire.specs.Data as data_spec
+use Rattle.rtps_wire.specs.Fields as fields
+use Rattle.rtps_wire.specs.Message as message
+use Rattle.rtps_wire.specs.Skipped as skipped
 use Rattle.rtps_wire.specs.declared.data_frag.DataFrag.{DataFrag}
 use Rattle.rtps_wire.specs.declared.data_frag.Shape.{Shape}
-use Rattle.rtps_wire.specs.declared.layout.data.TheConstants.{QOS_FROM}
-use Rattle.rtps_wire.specs.declared.layout.data_frag.TheConstants.{COUNT, FIRST, FRAGMENT, K, NUMBER, READER, SAMPLE, SIZE, WRITER}
-use Rattle.rtps_wire.specs.declared.layout.id.TheConstants.{DATA_FRAG}
+use Rattle.rtps_wire.specs.declared.layout.data.TheConstants as data_layout
+use Rattle.rtps_wire.specs.declared.layout.data_frag.TheConstants as data_frag
+use Rattle.rtps_wire.specs.declared.layout.id.TheConstants as id
 
 -- ---- the fragments of a sample
 
@@ -50,20 +50,20 @@ begins_with_fragments shape first count octets =
 
 -- writerSN: the number of the sample
 abbrev pub sample_number : Order → List ℕ → ℤ
-sample_number order body = sequence_number_of order (drop NUMBER body)
+sample_number order body = octets.sequence_number_of order (drop data_frag.NUMBER body)
 
 -- fragmentStartingNum: the number of the first of these fragments
 abbrev pub starting_number : Order → List ℕ → ℕ
-starting_number order body = number_of order 4 (drop FIRST body)
+starting_number order body = octets.number_of order 4 (drop data_frag.FIRST body)
 
 -- fragmentsInSubmessage: how many fragments there are
 abbrev pub fragment_count : Order → List ℕ → ℕ
-fragment_count order body = number_of order 2 (drop COUNT body)
+fragment_count order body = octets.number_of order 2 (drop data_frag.COUNT body)
 
 -- sampleSize, fragmentSize, and flag K: the sample is a key
 abbrev pub spelled_shape : Order → ℕ → List ℕ → Shape
 spelled_shape order flags body =
-    record { sample = number_of order 4 (drop SAMPLE body); fragment = number_of order 2 (drop FRAGMENT body); is_key = not (bit_and flags K == 0) }
+    record { sample = octets.number_of order 4 (drop data_frag.SAMPLE body); fragment = octets.number_of order 2 (drop data_frag.FRAGMENT body); is_key = not (bit_and flags data_frag.K == 0) }
 
 -- how many octets the fragments have
 abbrev pub spelled_length : Order → ℕ → List ℕ → ℕ
@@ -72,17 +72,17 @@ spelled_length order flags body =
 
 -- the octets behind the inline QoS
 abbrev pub octets_behind : Order → ℕ → List ℕ → List ℕ
-octets_behind order flags body = behind_qos order flags (behind_fields order body)
+octets_behind order flags body = data_spec.behind_qos order flags (data_spec.behind_fields order body)
 
 -- Whether a body has fragments that can be used: it has all fields; octetsToInlineQos points behind them and into the body;
 -- writerSN is a sequence number; there is an inline QoS where flag Q says so; the fragments of the sample come behind it.
 abbrev pub is_data_frag : Order → ℕ → List ℕ → Bool
 is_data_frag order flags body =
-    nat_le SIZE (length body)
-    && nat_le SIZE (QOS_FROM + octets_to_inline_qos order body)
-    && nat_le (QOS_FROM + octets_to_inline_qos order body) (length body)
+    nat_le data_frag.SIZE (length body)
+    && nat_le data_frag.SIZE (data_layout.QOS_FROM + data_spec.octets_to_inline_qos order body)
+    && nat_le (data_layout.QOS_FROM + data_spec.octets_to_inline_qos order body) (length body)
     && int_lt (pos 0) (sample_number order body)
-    && not (has_qos flags && is_err (list_end order (behind_fields order body)))
+    && not (data_spec.has_qos flags && is_err (reading.list_end order (data_spec.behind_fields order body)))
     && begins_with_fragments (spelled_shape order flags body) (starting_number order body) (fragment_count order body) (octets_behind order flags body)
 
 -- ---- what is read
@@ -93,7 +93,7 @@ pub record DataFragValue : Type 0 where
   pub reader : EntityId
   pub writer : EntityId
   pub number : ℕ
-  pub qos : Option ListValue
+  pub qos : Option lists.ListValue
   pub first : ℕ
   pub count : ℕ
   pub shape : Shape
@@ -104,10 +104,10 @@ abbrev pub data_frag_of : Order → ℕ → List ℕ → DataFragValue
 data_frag_of order flags body =
     record {
       order = order;
-      reader = entity_at READER body;
-      writer = entity_at WRITER body;
+      reader = fields.entity_at data_frag.READER body;
+      writer = fields.entity_at data_frag.WRITER body;
       number = unsigned_abs (sample_number order body);
-      qos = qos_of order flags (behind_fields order body);
+      qos = data_spec.qos_of order flags (data_spec.behind_fields order body);
       first = starting_number order body;
       count = fragment_count order body;
       shape = spelled_shape order flags body;
@@ -121,7 +121,7 @@ data_frag_in order flags body = if is_data_frag order flags body then Some (data
 -- the fragments of the first submessage of these octets, if it is a DATA_FRAG without a fault and has some that can be used
 unfoldable pub data_frag_at : List ℕ → Option DataFragValue
 data_frag_at rest =
-    if begins_with DATA_FRAG rest then data_frag_in (order_of (flags_of rest)) (flags_of rest) (body_octets rest) else None
+    if skipped.begins_with id.DATA_FRAG rest then data_frag_in (message.order_of (message.flags_of rest)) (message.flags_of rest) (message.body_octets rest) else None
 
 -- a DATA_FRAG of the code, as a value
 abbrev pub data_frag_value : DataFrag → DataFragValue
@@ -131,7 +131,7 @@ data_frag_value value =
       reader = value.reader;
       writer = value.writer;
       number = value.number;
-      qos = option_map list_value value.qos;
+      qos = option_map lists.list_value value.qos;
       first = value.first;
       count = value.count;
       shape = value.shape;

@@ -8,16 +8,14 @@ use Rattle.rtps_ids.specs.declared.identity.Stamp.{Stamp}
 use Rattle.rtps_ids.specs.declared.identity.Vendor.{Vendor}
 use Rattle.rtps_ids.specs.declared.identity.Version.{Version}
 use Rattle.rtps_ids.specs.declared.order.Order.{Order}
-use Rattle.rtps_params.specs.Lists.{ListValue, list_value}
+use Rattle.rtps_params.specs.Lists as lists
 use Rattle.rtps_wire.specs.declared.body.AckNackBody.{AckNackBody}
 use Rattle.rtps_wire.specs.declared.body.Body.{Body}
-use Rattle.rtps_wire.specs.declared.body.Body.TheVariants as body
 use Rattle.rtps_wire.specs.declared.body.DataBody.{DataBody}
 use Rattle.rtps_wire.specs.declared.body.GapBody.{GapBody}
 use Rattle.rtps_wire.specs.declared.body.HeartbeatBody.{HeartbeatBody}
 use Rattle.rtps_wire.specs.declared.body.Item.{Item}
 use Rattle.rtps_wire.specs.declared.body.Payload.{Payload}
-use Rattle.rtps_wire.specs.declared.body.Payload.TheVariants as payload
 
 -- what a DATA carries: nothing, a whole sample, or the key of one
 pub data PayloadValue : Type 0 where
@@ -30,7 +28,7 @@ pub record DataValue : Type 0 where
   pub reader : EntityId
   pub writer : EntityId
   pub number : ℕ
-  pub qos : Option ListValue
+  pub qos : Option lists.ListValue
   pub payload : PayloadValue
 
 -- what a submessage says, or the id of one that is not read
@@ -52,24 +50,24 @@ pub record ItemValue : Type 0 where
 
 -- a payload of the code, as a value
 abbrev pub payload_value : Payload → PayloadValue
-payload_value payload.Absent = Absent
-payload_value (payload.Whole octets) = Whole octets.now
-payload_value (payload.Key octets) = Key octets.now
+payload_value Payload.Absent = Absent
+payload_value (Payload.Whole octets) = Whole octets.now
+payload_value (Payload.Key octets) = Key octets.now
 
 -- a DATA of the code, as a value
 abbrev pub data_value : DataBody → DataValue
-data_value value = record { reader = value.reader; writer = value.writer; number = value.number; qos = option_map list_value value.qos; payload = payload_value value.payload }
+data_value value = record { reader = value.reader; writer = value.writer; number = value.number; qos = option_map lists.list_value value.qos; payload = payload_value value.payload }
 
 -- a body of the code, as a value
 abbrev pub body_value : Body → BodyValue
-body_value (body.Data value) = Data (data_value value)
-body_value (body.Heartbeat value) = Heartbeat value
-body_value (body.AckNack value) = AckNack value
-body_value (body.Gap value) = Gap value
-body_value (body.InfoTs time) = InfoTs time
-body_value (body.InfoDst prefix) = InfoDst prefix
-body_value (body.InfoSrc version vendor prefix) = InfoSrc version vendor prefix
-body_value (body.Skipped id) = Skipped id
+body_value (Body.Data value) = Data (data_value value)
+body_value (Body.Heartbeat value) = Heartbeat value
+body_value (Body.AckNack value) = AckNack value
+body_value (Body.Gap value) = Gap value
+body_value (Body.InfoTs time) = InfoTs time
+body_value (Body.InfoDst prefix) = InfoDst prefix
+body_value (Body.InfoSrc version vendor prefix) = InfoSrc version vendor prefix
+body_value (Body.Skipped id) = Skipped id
 
 -- an item of the code, as a value
 abbrev pub item_value : Item → ItemValue

@@ -1,5 +1,5 @@
 ghost use Rattle.std.specs.Prelude.{◌≡◌};
-ghost use Rattle.rtps_wire.specs.Values.{body_value};
+ghost use Rattle.rtps_wire.specs.Values as values;
 
 use crate::body::Body;
 use crate::layout::id;
@@ -22,7 +22,7 @@ impl<'a> Body<'a> {
     /// 9.4.5.1.1 "SubmessageId").
     #[inline(always)]
     pub fn is_fragment(&self) -> bool
-        ensures { result ≡ tally.is_fragment (body_value self.now) }
+        ensures { result ≡ tally.is_fragment (values.body_value self.now) }
     {
         match self {
             Body::Skipped {
@@ -35,7 +35,7 @@ impl<'a> Body<'a> {
     /// Whether it is skipped and is no fragment. A PAD is such an item.
     #[inline(always)]
     pub fn is_skipped(&self) -> bool
-        ensures { result ≡ tally.is_skipped (body_value self.now) }
+        ensures { result ≡ tally.is_skipped (values.body_value self.now) }
     {
         match self {
             Body::Skipped { .. } => !self.is_fragment(),

@@ -1,6 +1,6 @@
 ghost use Rattle.std.specs.Prelude.{◌≡◌, ◌<◌, IfSome};
 ghost use Rattle.std.specs.Option.{option_map};
-ghost use Rattle.rtps_wire.specs.DataFrag.{IsDataFrag, data_frag_at, data_frag_value, last_fragment};
+ghost use Rattle.rtps_wire.specs.DataFrag as data_frag;
 
 use crate::layout::id;
 use crate::message::{order_of, skipped_body};
@@ -23,7 +23,7 @@ impl Shape {
     /// The number of the last fragment. Fragments count from 1.
     pub fn last_fragment(self) -> u64
         requires { 0 < self.fragment }
-        ensures { result ≡ last_fragment self }
+        ensures { result ≡ data_frag.last_fragment self }
     {
         let fragment = u64::from(self.fragment);
         (u64::from(self.sample) + fragment - 1) / fragment
@@ -56,8 +56,8 @@ impl<'a> DataFrag<'a> {
     /// (DDSI-RTPS 2.5, 8.3.8.3.3 "Validity").
     #[tactic(auto, using(crate::proofs::FragmentFields::of_whole, crate::proofs::FragmentFields::none_of_other))]
     pub fn read(submessage: &'a [u8]) -> Option<DataFrag<'a>>
-        ensures value { option_map data_frag_value result ≡ data_frag_at submessage.now }
-        ensures fragments { IfSome result (λ read. IsDataFrag (data_frag_value read)) }
+        ensures value { option_map data_frag.data_frag_value result ≡ data_frag.data_frag_at submessage.now }
+        ensures fragments { IfSome result (λ read. data_frag.IsDataFrag (data_frag.data_frag_value read)) }
     {
         let (flags, body) = skipped_body(submessage, id::DATA_FRAG)?;
         read::data_frag(order_of(flags), flags, body)

@@ -1,13 +1,13 @@
 ghost use Rattle.std.specs.Prelude.{◌≡◌, ◌<◌, ◌^◌, length};
-ghost use Rattle.rtps_wire.specs.Reading.{outcomes_left, reading_of};
-ghost use Rattle.rtps_wire.specs.Tally.{tally_of, tally_of_outcomes};
+ghost use Rattle.rtps_wire.specs.Reading as reading;
+ghost use Rattle.rtps_wire.specs.Tally as tally;
 
 use crate::counts::Tally;
 use crate::message::Items;
 
 /// Counts one datagram of any length. Items before a refusal count.
 pub fn tally(bytes: &[u8]) -> Tally
-    ensures { result ≡ tally_of (reading_of bytes.now) }
+    ensures { result ≡ tally.tally_of (reading.reading_of bytes.now) }
 {
     match Items::open(bytes) {
         Ok((_, items)) => tally_items(items),
@@ -21,8 +21,8 @@ pub fn tally(bytes: &[u8]) -> Tally
 
 /// Counts the unread part of a datagram.
 fn tally_items(items: Items<'_>) -> Tally
-    requires { length (outcomes_left items) < 2 ^ 64 }
-    ensures { result ≡ tally_of_outcomes (outcomes_left items.entry) }
+    requires { length (reading.outcomes_left items) < 2 ^ 64 }
+    ensures { result ≡ tally.tally_of_outcomes (reading.outcomes_left items.entry) }
 {
     let mut tally = Tally {
         refused: false,

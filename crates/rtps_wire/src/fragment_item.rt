@@ -1,8 +1,8 @@
 ghost use Rattle.std.specs.Prelude.{◌≡◌, drop, IfSome};
 ghost use Rattle.std.specs.Option.{option_map};
-ghost use Rattle.rtps_wire.specs.DataFrag.{IsDataFrag, data_frag_value};
-ghost use Rattle.rtps_wire.specs.FragmentItem.{asks_at, fragments_at, is_skipped_data_frag, is_skipped_nack_frag};
-ghost use Rattle.rtps_wire.specs.Values.{body_value, item_value};
+ghost use Rattle.rtps_wire.specs.DataFrag as data_frag;
+ghost use Rattle.rtps_wire.specs.FragmentItem as fragment_item;
+ghost use Rattle.rtps_wire.specs.Values as values;
 
 use crate::body::{Body, Item};
 use crate::data_frag::DataFrag;
@@ -23,7 +23,7 @@ fn octets_from(octets: &[u8], at: usize) -> &[u8]
 impl<'a> Body<'a> {
     /// Whether it is skipped as a DATA_FRAG.
     pub fn is_data_frag(&self) -> bool
-        ensures { result ≡ is_skipped_data_frag (body_value self.now) }
+        ensures { result ≡ fragment_item.is_skipped_data_frag (values.body_value self.now) }
     {
         match self {
             Body::Skipped { id } => *id == id::DATA_FRAG,
@@ -33,7 +33,7 @@ impl<'a> Body<'a> {
 
     /// Whether it is skipped as a NACK_FRAG.
     fn is_nack_frag(&self) -> bool
-        ensures { result ≡ is_skipped_nack_frag (body_value self.now) }
+        ensures { result ≡ fragment_item.is_skipped_nack_frag (values.body_value self.now) }
     {
         match self {
             Body::Skipped { id } => *id == id::NACK_FRAG,
@@ -45,8 +45,8 @@ impl<'a> Body<'a> {
 impl<'a> Item<'a> {
     /// The fragments that it has, if it is a DATA_FRAG that has some that can be used. These are the octets of its datagram.
     pub fn data_frag<'d>(&self, datagram: &'d [u8]) -> Option<DataFrag<'d>>
-        ensures value { option_map data_frag_value result ≡ fragments_at datagram.now (item_value self.now) }
-        ensures fragments { IfSome result (λ read. IsDataFrag (data_frag_value read)) }
+        ensures value { option_map data_frag.data_frag_value result ≡ fragment_item.fragments_at datagram.now (values.item_value self.now) }
+        ensures fragments { IfSome result (λ read. data_frag.IsDataFrag (data_frag.data_frag_value read)) }
     {
         if self.body.is_fragment() {
             DataFrag::read(octets_from(datagram, self.at))
@@ -57,7 +57,7 @@ impl<'a> Item<'a> {
 
     /// What a reader asks for by it, if it is a NACK_FRAG that can be read. These are the octets of its datagram.
     pub fn nack_frag(&self, datagram: &[u8]) -> Option<NackFrag>
-        ensures { result ≡ asks_at datagram.now (item_value self.now) }
+        ensures { result ≡ fragment_item.asks_at datagram.now (values.item_value self.now) }
     {
         if self.body.is_nack_frag() {
             NackFrag::read(octets_from(datagram, self.at))

@@ -1,6 +1,6 @@
 ghost use Rattle.std.specs.Prelude.{◌≤◌, length, IfOk};
-ghost use Rattle.rtps_wire.specs.Fault.{ReadsOrFaults};
-ghost use Rattle.rtps_wire.specs.Header.{header_fault, header_of};
+ghost use Rattle.rtps_wire.specs.Fault as fault;
+ghost use Rattle.rtps_wire.specs.Header as header_spec;
 ghost use Rattle.rtps_wire.specs.declared.layout.header.TheConstants.{SIZE};
 
 use crate::fault::WireFault;
@@ -20,7 +20,7 @@ pub struct Header {
 /// Reads the header at the beginning of a datagram.
 #[tactic(auto, unfolding(crate::specs::Header::header_fault, crate::specs::Header::header_of))]
 pub(crate) fn read_header(bytes: &[u8]) -> Result<Header, WireFault>
-    ensures header { ReadsOrFaults (λ header. header) result (header_fault bytes.now) (header_of bytes.now) }
+    ensures header { fault.ReadsOrFaults (λ header. header) result (header_spec.header_fault bytes.now) (header_spec.header_of bytes.now) }
     ensures size { IfOk result (λ header. SIZE ≤ length bytes.now) }
 {
     if bytes.len() < header::SIZE {

@@ -1,13 +1,11 @@
-ghost use Rattle.std.specs.Prelude.{◌≡◌, ◌≤◌, ◌+◌, drop, false, length, true, IfOk, MatchBool, MatchOption, MatchResult, None, Some};
+ghost use Rattle.std.specs.Prelude.{◌≡◌, ◌≤◌, ◌+◌, drop, false, length, true, IfOk, MatchBool, MatchOption, MatchResult};
 ghost use Rattle.std.specs.Iterator.{YieldsFirstBy, item_count};
-ghost use Rattle.rtps_wire.specs.Dataless.{dataless_next, is_dataless_at, is_dataless_with};
-ghost use Rattle.rtps_wire.specs.Fault.{ReadsOrFaults};
-ghost use Rattle.rtps_wire.specs.Message.{body_fault, body_length, body_octets, body_of, extent_of, fault_at, flags_of, item_at, octets_to_next_header};
+ghost use Rattle.rtps_wire.specs.Dataless as dataless;
+ghost use Rattle.rtps_wire.specs.Fault as fault;
 ghost use Rattle.rtps_wire.specs.Message as message_spec;
-ghost use Rattle.rtps_wire.specs.Reading.{outcome_value, outcomes_left, read_as, reading_of, refused_with};
-ghost use Rattle.rtps_wire.specs.Skipped.{begins_with, skipped_next};
+ghost use Rattle.rtps_wire.specs.Reading as reading;
 ghost use Rattle.rtps_wire.specs.Skipped as skipped_spec;
-ghost use Rattle.rtps_wire.specs.Values.{body_value, item_value};
+ghost use Rattle.rtps_wire.specs.Values as values;
 ghost use Rattle.rtps_wire.specs.declared.layout.submessage.TheConstants.{SIZE};
 
 use crate::body::{Body, Item};
@@ -30,9 +28,9 @@ pub struct Items<'a> {
 
 impl<'a> Model for Items<'a> {
     ghost use Rattle.std.specs.Prelude.{◌+◌, ◌<◌, ◌^◌, length};
-    ghost use Rattle.rtps_wire.specs.Reading.{Unread};
+    ghost use Rattle.rtps_wire.specs.Reading as reading;
 
-    ghost Value = { Unread };
+    ghost Value = { reading.Unread };
 
     ghost view = { λ items. record { rest = items.rest.now; at = items.at } };
 
@@ -45,8 +43,8 @@ impl<'a> Items<'a> {
     #[inline(always)]
     pub fn open(bytes: &'a [u8]) -> Result<(Header, Items<'a>), Refusal>
         ensures { MatchResult result
-            (λ opened. (reading_of bytes.now ≡ read_as opened.0 (outcomes_left opened.1)) × (length (outcomes_left opened.1) ≤ length bytes.now))
-            (λ refusal. (reading_of bytes.now ≡ refused_with refusal.fault) × (refusal.at ≡ 0)) }
+            (λ opened. (reading.reading_of bytes.now ≡ reading.read_as opened.0 (reading.outcomes_left opened.1)) × (length (reading.outcomes_left opened.1) ≤ length bytes.now))
+            (λ refusal. (reading.reading_of bytes.now ≡ reading.refused_with refusal.fault) × (refusal.at ≡ 0)) }
     {
         match read_header(bytes) {
             Ok(header) => {
@@ -70,8 +68,8 @@ impl<'a> Items<'a> {
     /// a refusal, or if nothing is left. It is faster than the iterator, which makes an `Item`.
     #[inline(always)]
     pub fn take_skipped(&mut self) -> Option<u8>
-        ensures id { result ≡ skipped_next (outcomes_left self.old) }
-        ensures left { MatchOption result (self.new ≡ self.old) (λ id. outcomes_left self.new ≡ drop 1 (outcomes_left self.old)) }
+        ensures id { result ≡ skipped_spec.skipped_next (reading.outcomes_left self.old) }
+        ensures left { MatchOption result (self.new ≡ self.old) (λ id. reading.outcomes_left self.new ≡ drop 1 (reading.outcomes_left self.old)) }
     {
         if self.rest.len() < submessage::SIZE {
             return None;
@@ -96,8 +94,8 @@ impl<'a> Items<'a> {
     /// than the iterator if only DATA are wanted.
     #[inline(always)]
     pub fn take_dataless(&mut self) -> bool
-        ensures taken { result ≡ dataless_next (outcomes_left self.old) }
-        ensures left { MatchBool result (outcomes_left self.new ≡ drop 1 (outcomes_left self.old)) (self.new ≡ self.old) }
+        ensures taken { result ≡ dataless.dataless_next (reading.outcomes_left self.old) }
+        ensures left { MatchBool result (reading.outcomes_left self.new ≡ drop 1 (reading.outcomes_left self.old)) (self.new ≡ self.old) }
     {
         let Some(size) = dataless_size(self.rest) else {
             return false;
@@ -111,9 +109,9 @@ impl<'a> Items<'a> {
 impl<'a> Iterator for Items<'a> {
     type Item = Result<Item<'a>, Refusal>;
 
-    ghost next_gives = { YieldsFirstBy outcome_value outcomes_left };
+    ghost next_gives = { YieldsFirstBy reading.outcome_value reading.outcomes_left };
 
-    ghost remaining = { item_count outcomes_left };
+    ghost remaining = { item_count reading.outcomes_left };
 
     /// The next item, or the refusal that ends the message. After a refusal or the end it always gives None.
     #[inline(always)]
@@ -140,7 +138,7 @@ impl<'a> Iterator for Items<'a> {
 #[inline(always)]
 pub(crate) fn declared_by(rest: &[u8]) -> usize
     requires { SIZE ≤ length rest.now }
-    ensures { result ≡ octets_to_next_header rest.now }
+    ensures { result ≡ message_spec.octets_to_next_header rest.now }
 {
     let order = order_of(rest[submessage::FLAGS]);
     u16_at(order, rest, submessage::OCTETS_TO_NEXT).unwrap_or(0) as usize
@@ -166,8 +164,8 @@ fn is_read(id: u8) -> bool
 /// The size of the submessage at the front, if it has no fault, is no DATA and does not change the receiver's state.
 #[inline(always)]
 fn dataless_size(rest: &[u8]) -> Option<usize>
-    ensures { MatchOption result (is_dataless_at rest.now ≡ false)
-        (λ size. (is_dataless_at rest.now ≡ true) × (size ≡ SIZE + body_length rest.now) × (size ≤ length rest.now)) }
+    ensures { MatchOption result (dataless.is_dataless_at rest.now ≡ false)
+        (λ size. (dataless.is_dataless_at rest.now ≡ true) × (size ≡ SIZE + message_spec.body_length rest.now) × (size ≤ length rest.now)) }
 {
     if rest.len() < submessage::SIZE {
         return None;
@@ -193,8 +191,8 @@ fn dataless_size(rest: &[u8]) -> Option<usize>
 /// The flags and the body of the submessage at the front, if it has this id, which is not read, and no fault.
 pub(crate) fn skipped_body(rest: &[u8], id: u8) -> Option<(u8, &[u8])>
     requires { skipped_spec.is_read id ≡ false }
-    ensures { MatchOption result (begins_with id rest.now ≡ false)
-        (λ found. (begins_with id rest.now ≡ true) × (found.0 ≡ flags_of rest.now) × (found.1.now ≡ body_octets rest.now)) }
+    ensures { MatchOption result (skipped_spec.begins_with id rest.now ≡ false)
+        (λ found. (skipped_spec.begins_with id rest.now ≡ true) × (found.0 ≡ message_spec.flags_of rest.now) × (found.1.now ≡ message_spec.body_octets rest.now)) }
 {
     if rest.len() < submessage::SIZE || rest[submessage::ID] != id {
         return None;
@@ -212,7 +210,7 @@ pub(crate) fn skipped_body(rest: &[u8], id: u8) -> Option<(u8, &[u8])>
 /// Whether the body of a submessage has no fault, is not that of a DATA and does not change the receiver's state.
 #[inline(always)]
 fn is_dataless(id: u8, flags: u8, octets: &[u8]) -> bool
-    ensures { result ≡ is_dataless_with (body_fault id flags octets.now) (body_of id flags octets.now) }
+    ensures { result ≡ dataless.is_dataless_with (message_spec.body_fault id flags octets.now) (message_spec.body_of id flags octets.now) }
 {
     let order = order_of(flags);
     match id {
@@ -228,8 +226,8 @@ fn is_dataless(id: u8, flags: u8, octets: &[u8]) -> bool
 #[tactic(auto, unfolding(crate::specs::Message::fault_at, crate::specs::Message::item_at))]
 #[inline(always)]
 fn read_item(rest: &[u8], at: usize) -> Result<(Item<'_>, usize), WireFault>
-    ensures item { ReadsOrFaults (λ found. item_value found.0) result (fault_at rest.now) (item_at rest.now at) }
-    ensures size { IfOk result (λ found. (found.1 ≡ SIZE + body_length rest.now) × (found.1 ≤ length rest.now)) }
+    ensures item { fault.ReadsOrFaults (λ found. values.item_value found.0) result (message_spec.fault_at rest.now) (message_spec.item_at rest.now at) }
+    ensures size { IfOk result (λ found. (found.1 ≡ SIZE + message_spec.body_length rest.now) × (found.1 ≤ length rest.now)) }
 {
     if rest.len() < submessage::SIZE {
         return Err(WireFault::CutHeader);
@@ -255,7 +253,7 @@ fn read_item(rest: &[u8], at: usize) -> Result<(Item<'_>, usize), WireFault>
 /// The size of the body of a submessage, if `left` octets come after its header.
 #[inline(always)]
 pub(crate) fn extent(id: u8, declared: usize, left: usize) -> usize
-    ensures { result ≡ extent_of id declared left }
+    ensures { result ≡ message_spec.extent_of id declared left }
 {
     match (declared, id) {
         (0, id::PAD | id::INFO_TS) => 0,
@@ -279,7 +277,7 @@ pub(crate) fn order_of(flags: u8) -> Order
 /// Reads the body of a submessage.
 #[inline(always)]
 fn read_body(id: u8, flags: u8, octets: &[u8]) -> Result<Body<'_>, WireFault>
-    ensures { ReadsOrFaults body_value result (body_fault id flags octets.now) (body_of id flags octets.now) }
+    ensures { fault.ReadsOrFaults values.body_value result (message_spec.body_fault id flags octets.now) (message_spec.body_of id flags octets.now) }
 {
     let order = order_of(flags);
     match id {

@@ -18,13 +18,13 @@ pub struct NackFrag {
 
 impl NackFrag {
     ghost use Rattle.std.specs.Prelude.{◌≡◌};
-    ghost use Rattle.rtps_wire.specs.NackFrag.{nack_frag_at};
+    ghost use Rattle.rtps_wire.specs.NackFrag as nack_frag;
 
     /// Reads the NACK_FRAG at the beginning of these octets: those of a datagram from the first octet of a submessage on.
     /// None if it is another submessage, if it has a fault, or if it cannot be read: fields are absent or out of range.
     #[tactic(auto, unfolding(crate::specs::NackFrag::nack_frag_at))]
     pub fn read(submessage: &[u8]) -> Option<NackFrag>
-        ensures { result ≡ nack_frag_at submessage.now }
+        ensures { result ≡ nack_frag.nack_frag_at submessage.now }
     {
         let (flags, body) = skipped_body(submessage, id::NACK_FRAG)?;
         read::nack_frag(order_of(flags), body)

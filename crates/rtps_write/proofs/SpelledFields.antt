@@ -6,9 +6,8 @@ use Rattle.std.specs.Int.{cast_unsigned, w64}
 use Rattle.std.proofs.lemmas.Bool.Decides.{nat_tests}
 use Rattle.std.proofs.lemmas.Int.{ints}
 use Rattle.std.proofs.lemmas.List.{drop-drop, drop_more, length-drop, take-append-drop}
-use Rattle.rtps_ids.specs.Octets.{number_of, octets_of, sequence_number_octets, sequence_number_of}
+use Rattle.rtps_ids.specs.Octets as octets_spec
 use Rattle.rtps_ids.specs.declared.order.Order.{Order}
-use Rattle.rtps_ids.specs.declared.order.Order.TheVariants.{Big, Little}
 use Rattle.rtps_wire.proofs.Offered.{AreOctets, octets-drop}
 
 -- a field of so many octets stands at a place, and in front of what stands behind it
@@ -32,59 +31,59 @@ four a a' b b' c c' d d' p q r s = cc
 two : (a a' b b' : ℕ) → a ≡ a' → b ≡ b' → ◌≡◌ {A = List ℕ} (a ∷ b ∷ []) (a' ∷ b' ∷ [])
 two a a' b b' p q = cc
 
-word_octets : (order : Order) (octets : List ℕ) → 4 ≤ length octets → AreOctets octets → octets_of order 4 (number_of order 4 octets) ≡ take 4 octets
-unfolding octets_of number_of
-word_octets Big (a ∷ b ∷ c ∷ d ∷ rest) long small =
-    let are = digits_of (number_of Big 4 (a ∷ b ∷ c ∷ d ∷ rest)) a b c d (omega arith) (small 0 0 (omega arith)) (small 1 0 (omega arith)) (small 2 0 (omega arith)) (small 3 0 (omega arith)) in
+word_octets : (order : Order) (octets : List ℕ) → 4 ≤ length octets → AreOctets octets → octets_spec.octets_of order 4 (octets_spec.number_of order 4 octets) ≡ take 4 octets
+unfolding octets_spec.octets_of octets_spec.number_of
+word_octets Order.Big (a ∷ b ∷ c ∷ d ∷ rest) long small =
+    let are = digits_of (octets_spec.number_of Order.Big 4 (a ∷ b ∷ c ∷ d ∷ rest)) a b c d (omega arith) (small 0 0 (omega arith)) (small 1 0 (omega arith)) (small 2 0 (omega arith)) (small 3 0 (omega arith)) in
     four _ a _ b _ c _ d are.0 are.1 are.2 are.3
-word_octets Little (a ∷ b ∷ c ∷ d ∷ rest) long small =
-    let are = digits_of (number_of Little 4 (a ∷ b ∷ c ∷ d ∷ rest)) d c b a (omega arith) (small 3 0 (omega arith)) (small 2 0 (omega arith)) (small 1 0 (omega arith)) (small 0 0 (omega arith)) in
+word_octets Order.Little (a ∷ b ∷ c ∷ d ∷ rest) long small =
+    let are = digits_of (octets_spec.number_of Order.Little 4 (a ∷ b ∷ c ∷ d ∷ rest)) d c b a (omega arith) (small 3 0 (omega arith)) (small 2 0 (omega arith)) (small 1 0 (omega arith)) (small 0 0 (omega arith)) in
     four _ a _ b _ c _ d are.3 are.2 are.1 are.0
 word_octets order [] long small = absurd (omega arith)
 word_octets order (a ∷ []) long small = absurd (omega arith)
 word_octets order (a ∷ b ∷ []) long small = absurd (omega arith)
 word_octets order (a ∷ b ∷ c ∷ []) long small = absurd (omega arith)
 
-pub half_octets : (order : Order) (octets : List ℕ) → 2 ≤ length octets → AreOctets octets → octets_of order 2 (number_of order 2 octets) ≡ take 2 octets
-unfolding octets_of number_of
-half_octets Big (a ∷ b ∷ rest) long small =
-    let are = digits_of (number_of Big 2 (a ∷ b ∷ rest)) 0 0 a b (omega arith) (omega arith) (omega arith) (small 0 0 (omega arith)) (small 1 0 (omega arith)) in
+pub half_octets : (order : Order) (octets : List ℕ) → 2 ≤ length octets → AreOctets octets → octets_spec.octets_of order 2 (octets_spec.number_of order 2 octets) ≡ take 2 octets
+unfolding octets_spec.octets_of octets_spec.number_of
+half_octets Order.Big (a ∷ b ∷ rest) long small =
+    let are = digits_of (octets_spec.number_of Order.Big 2 (a ∷ b ∷ rest)) 0 0 a b (omega arith) (omega arith) (omega arith) (small 0 0 (omega arith)) (small 1 0 (omega arith)) in
     two _ a _ b are.2 are.3
-half_octets Little (a ∷ b ∷ rest) long small =
-    let are = digits_of (number_of Little 2 (a ∷ b ∷ rest)) 0 0 b a (omega arith) (omega arith) (omega arith) (small 1 0 (omega arith)) (small 0 0 (omega arith)) in
+half_octets Order.Little (a ∷ b ∷ rest) long small =
+    let are = digits_of (octets_spec.number_of Order.Little 2 (a ∷ b ∷ rest)) 0 0 b a (omega arith) (omega arith) (omega arith) (small 1 0 (omega arith)) (small 0 0 (omega arith)) in
     two _ a _ b are.3 are.2
 half_octets order [] long small = absurd (omega arith)
 half_octets order (a ∷ []) long small = absurd (omega arith)
 
-pub word_below : (order : Order) (octets : List ℕ) → 4 ≤ length octets → AreOctets octets → number_of order 4 octets < 2 ^ 32
-unfolding number_of
-word_below Big (a ∷ b ∷ c ∷ d ∷ rest) long small =
+pub word_below : (order : Order) (octets : List ℕ) → 4 ≤ length octets → AreOctets octets → octets_spec.number_of order 4 octets < 2 ^ 32
+unfolding octets_spec.number_of
+word_below Order.Big (a ∷ b ∷ c ∷ d ∷ rest) long small =
     let p : a < 256 = small 0 0 (omega arith) in let q : b < 256 = small 1 0 (omega arith) in let r : c < 256 = small 2 0 (omega arith) in let s : d < 256 = small 3 0 (omega arith) in omega arith
-word_below Little (a ∷ b ∷ c ∷ d ∷ rest) long small =
+word_below Order.Little (a ∷ b ∷ c ∷ d ∷ rest) long small =
     let p : a < 256 = small 0 0 (omega arith) in let q : b < 256 = small 1 0 (omega arith) in let r : c < 256 = small 2 0 (omega arith) in let s : d < 256 = small 3 0 (omega arith) in omega arith
 word_below order [] long small = absurd (omega arith)
 word_below order (a ∷ []) long small = absurd (omega arith)
 word_below order (a ∷ b ∷ []) long small = absurd (omega arith)
 word_below order (a ∷ b ∷ c ∷ []) long small = absurd (omega arith)
 
-pub half_below : (order : Order) (octets : List ℕ) → 2 ≤ length octets → AreOctets octets → number_of order 2 octets < 2 ^ 16
-unfolding number_of
-half_below Big (a ∷ b ∷ rest) long small =
+pub half_below : (order : Order) (octets : List ℕ) → 2 ≤ length octets → AreOctets octets → octets_spec.number_of order 2 octets < 2 ^ 16
+unfolding octets_spec.number_of
+half_below Order.Big (a ∷ b ∷ rest) long small =
     let p : a < 256 = small 0 0 (omega arith) in let q : b < 256 = small 1 0 (omega arith) in omega arith
-half_below Little (a ∷ b ∷ rest) long small =
+half_below Order.Little (a ∷ b ∷ rest) long small =
     let p : a < 256 = small 0 0 (omega arith) in let q : b < 256 = small 1 0 (omega arith) in omega arith
 half_below order [] long small = absurd (omega arith)
 half_below order (a ∷ []) long small = absurd (omega arith)
 
 -- a word and a half of a word stand at a place
 pub word_stands : (order : Order) (octets : List ℕ) (at next : ℕ) → at + 4 ≡ next → next ≤ length octets → AreOctets octets
-    → drop at octets ≡ octets_of order 4 (number_of order 4 (drop at octets)) ++ drop next octets
+    → drop at octets ≡ octets_spec.octets_of order 4 (octets_spec.number_of order 4 (drop at octets)) ++ drop next octets
 word_stands order octets at next is inside small =
     let there = word_octets order (drop at octets) (omega (arith, length-drop at octets)) (octets-drop octets at small) in
     field_stands octets at 4 next is ∙ ap (λ xs. xs ++ drop next octets) (sym there)
 
 pub half_stands : (order : Order) (octets : List ℕ) (at next : ℕ) → at + 2 ≡ next → next ≤ length octets → AreOctets octets
-    → drop at octets ≡ octets_of order 2 (number_of order 2 (drop at octets)) ++ drop next octets
+    → drop at octets ≡ octets_spec.octets_of order 2 (octets_spec.number_of order 2 (drop at octets)) ++ drop next octets
 half_stands order octets at next is inside small =
     let there = half_octets order (drop at octets) (omega (arith, length-drop at octets)) (octets-drop octets at small) in
     field_stands octets at 2 next is ∙ ap (λ xs. xs ++ drop next octets) (sym there)
@@ -103,12 +102,12 @@ spelled_plain n small low = by (nat_lt n (2 ^ 63)) refl
     by true e = rw e (omega arith)
     by false e = absurd (grind (arith, ints, nat_tests))
 
-number_octets : (order : Order) (octets : List ℕ) → 8 ≤ length octets → AreOctets octets → int_le (pos 0) (sequence_number_of order octets) ≡ true
-    → sequence_number_octets order (sequence_number_of order octets) ≡ take 8 octets
-unfolding sequence_number_octets sequence_number_of
+number_octets : (order : Order) (octets : List ℕ) → 8 ≤ length octets → AreOctets octets → int_le (pos 0) (octets_spec.sequence_number_of order octets) ≡ true
+    → octets_spec.sequence_number_octets order (octets_spec.sequence_number_of order octets) ≡ take 8 octets
+unfolding octets_spec.sequence_number_octets octets_spec.sequence_number_of
 number_octets order octets long small low =
-    let high = number_of order 4 octets in
-    let rest = number_of order 4 (drop 4 octets) in
+    let high = octets_spec.number_of order 4 octets in
+    let rest = octets_spec.number_of order 4 (drop 4 octets) in
     let high_small = word_below order octets (omega arith) small in
     let rest_small = word_below order (drop 4 octets) (omega (arith, length-drop 4 octets)) (octets-drop octets 4 small) in
     let plain : cast_unsigned w64 (signed (high * 2 ^ 32 + rest)) ≡ high * 2 ^ 32 + rest = spelled_plain (high * 2 ^ 32 + rest) (omega arith) low in
@@ -116,10 +115,10 @@ number_octets order octets long small low =
     let second : (high * 2 ^ 32 + rest) % 2 ^ 32 ≡ rest = omega arith in
     let front = word_octets order octets (omega arith) small in
     let back = word_octets order (drop 4 octets) (omega (arith, length-drop 4 octets)) (octets-drop octets 4 small) in
-    ap (λ n. octets_of order 4 (n / 2 ^ 32) ++ octets_of order 4 (n % 2 ^ 32)) plain
-    ∙ (ap (λ n. octets_of order 4 n ++ octets_of order 4 ((high * 2 ^ 32 + rest) % 2 ^ 32)) first
-    ∙ (ap (λ n. octets_of order 4 high ++ octets_of order 4 n) second
-    ∙ (ap (λ xs. xs ++ octets_of order 4 rest) front ∙ (ap (λ xs. take 4 octets ++ xs) back ∙ halves octets))))
+    ap (λ n. octets_spec.octets_of order 4 (n / 2 ^ 32) ++ octets_spec.octets_of order 4 (n % 2 ^ 32)) plain
+    ∙ (ap (λ n. octets_spec.octets_of order 4 n ++ octets_spec.octets_of order 4 ((high * 2 ^ 32 + rest) % 2 ^ 32)) first
+    ∙ (ap (λ n. octets_spec.octets_of order 4 high ++ octets_spec.octets_of order 4 n) second
+    ∙ (ap (λ xs. xs ++ octets_spec.octets_of order 4 rest) front ∙ (ap (λ xs. take 4 octets ++ xs) back ∙ halves octets))))
   where
     halves : (octets : List ℕ) → take 4 octets ++ take 4 (drop 4 octets) ≡ take 8 octets
     halves (a ∷ b ∷ c ∷ d ∷ rest) = refl
@@ -129,11 +128,11 @@ number_octets order octets long small low =
     halves (a ∷ b ∷ c ∷ []) = refl
 
 pub number_stands : (order : Order) (octets : List ℕ) (at next : ℕ) (value : ℤ) → at + 8 ≡ next → next ≤ length octets → AreOctets octets
-    → sequence_number_of order (drop at octets) ≡ value → int_le (pos 0) value ≡ true
-    → drop at octets ≡ sequence_number_octets order value ++ drop next octets
+    → octets_spec.sequence_number_of order (drop at octets) ≡ value → int_le (pos 0) value ≡ true
+    → drop at octets ≡ octets_spec.sequence_number_octets order value ++ drop next octets
 number_stands order octets at next value is inside small spelled low =
     let there = number_octets order (drop at octets) (omega (arith, length-drop at octets)) (octets-drop octets at small) (ap (int_le (pos 0)) spelled ∙ low) in
-    field_stands octets at 8 next is ∙ ap (λ xs. xs ++ drop next octets) (sym there ∙ ap (sequence_number_octets order) spelled)
+    field_stands octets at 8 next is ∙ ap (λ xs. xs ++ drop next octets) (sym there ∙ ap (octets_spec.sequence_number_octets order) spelled)
 
 -- a number that is not negative is its absolute value
 pub pos-unsigned_abs : (value : ℤ) → int_le (pos 0) value ≡ true → pos (unsigned_abs value) ≡ value

@@ -6,13 +6,12 @@ use Rattle.std.proofs.lemmas.Nat.{and_mask}
 use Rattle.std.proofs.lemmas.Nat.Bits.{and_pow}
 use Rattle.rtps_ids.specs.declared.identity.Stamp.{Stamp}
 use Rattle.rtps_ids.specs.declared.order.Order.{Order}
-use Rattle.rtps_ids.specs.declared.order.Order.TheVariants.{Big, Little}
-use Rattle.rtps_params.specs.Lists.{ListValue}
-use Rattle.rtps_wire.specs.Data.{has_data, has_key, payload_of, qos_of}
-use Rattle.rtps_wire.specs.Message.{order_of}
-use Rattle.rtps_wire.specs.Values.PayloadValue.{Absent, Whole, Key}
-use Rattle.rtps_write.specs.WrittenBodies.{info_ts_flags, payload_flag, qos_flag}
-use Rattle.rtps_write.specs.Flags.{flag_if, order_flag}
+use Rattle.rtps_params.specs.Lists as lists
+use Rattle.rtps_wire.specs.Data as data_spec
+use Rattle.rtps_wire.specs.Message as message
+use Rattle.rtps_wire.specs.Values as values
+use Rattle.rtps_write.specs.WrittenBodies as written_bodies
+use Rattle.rtps_write.specs.Flags as flags_spec
 
 -- a flag is set or not
 abbrev IsFlag : ℕ → ℕ → Type 0
@@ -41,17 +40,17 @@ low_four flags = omega (arith, and_mask flags 4, and_pow flags 0, and_pow flags 
 -- ---- each kind
 
 abbrev told : ℕ → Order
-told e = if e == 1 then Little else Big
+told e = if e == 1 then Order.Little else Order.Big
 
-plain : (e : ℕ) → IsFlag 1 e → e ≡ bit_or (order_flag (told e)) 0
+plain : (e : ℕ) → IsFlag 1 e → e ≡ bit_or (flags_spec.order_flag (told e)) 0
 plain e (inl p) = rw p refl
 plain e (inr p) = rw p refl
 
-pub plain_flags : (flags : ℕ) → bit_and flags 1 ≡ bit_or (order_flag (order_of flags)) 0
+pub plain_flags : (flags : ℕ) → bit_and flags 1 ≡ bit_or (flags_spec.order_flag (message.order_of flags)) 0
 plain_flags flags = plain (bit_and flags 1) (is_flag flags 0 1 refl)
 
 heartbeat : (e f l : ℕ) → IsFlag 1 e → IsFlag 2 f → IsFlag 4 l
-    → e + (f + l) ≡ bit_or (order_flag (told e)) (bit_or (flag_if (not (f == 0)) 2) (flag_if (not (l == 0)) 4))
+    → e + (f + l) ≡ bit_or (flags_spec.order_flag (told e)) (bit_or (flags_spec.flag_if (not (f == 0)) 2) (flags_spec.flag_if (not (l == 0)) 4))
 heartbeat e f l (inl p) (inl q) (inl r) = rw (p, q, r) refl
 heartbeat e f l (inl p) (inl q) (inr r) = rw (p, q, r) refl
 heartbeat e f l (inl p) (inr q) (inl r) = rw (p, q, r) refl
@@ -62,30 +61,30 @@ heartbeat e f l (inr p) (inr q) (inl r) = rw (p, q, r) refl
 heartbeat e f l (inr p) (inr q) (inr r) = rw (p, q, r) refl
 
 pub heartbeat_flags_read : (flags : ℕ) → bit_and flags 7
-    ≡ bit_or (order_flag (order_of flags)) (bit_or (flag_if (not (bit_and flags 2 == 0)) 2) (flag_if (not (bit_and flags 4 == 0)) 4))
+    ≡ bit_or (flags_spec.order_flag (message.order_of flags)) (bit_or (flags_spec.flag_if (not (bit_and flags 2 == 0)) 2) (flags_spec.flag_if (not (bit_and flags 4 == 0)) 4))
 heartbeat_flags_read flags =
     low_three flags ∙ heartbeat (bit_and flags 1) (bit_and flags 2) (bit_and flags 4) (is_flag flags 0 1 refl) (is_flag flags 1 2 refl) (is_flag flags 2 4 refl)
 
-ack_nack : (e f : ℕ) → IsFlag 1 e → IsFlag 2 f → e + f ≡ bit_or (order_flag (told e)) (flag_if (not (f == 0)) 2)
+ack_nack : (e f : ℕ) → IsFlag 1 e → IsFlag 2 f → e + f ≡ bit_or (flags_spec.order_flag (told e)) (flags_spec.flag_if (not (f == 0)) 2)
 ack_nack e f (inl p) (inl q) = rw (p, q) refl
 ack_nack e f (inl p) (inr q) = rw (p, q) refl
 ack_nack e f (inr p) (inl q) = rw (p, q) refl
 ack_nack e f (inr p) (inr q) = rw (p, q) refl
 
-pub ack_nack_flags_read : (flags : ℕ) → bit_and flags 3 ≡ bit_or (order_flag (order_of flags)) (flag_if (not (bit_and flags 2 == 0)) 2)
+pub ack_nack_flags_read : (flags : ℕ) → bit_and flags 3 ≡ bit_or (flags_spec.order_flag (message.order_of flags)) (flags_spec.flag_if (not (bit_and flags 2 == 0)) 2)
 ack_nack_flags_read flags = low_two flags ∙ ack_nack (bit_and flags 1) (bit_and flags 2) (is_flag flags 0 1 refl) (is_flag flags 1 2 refl)
 
-time : (e i : ℕ) (stamp : Stamp) → IsFlag 1 e → IsFlag 2 i → e + i ≡ bit_or (order_flag (told e)) (info_ts_flags (if i == 0 then Some stamp else None))
+time : (e i : ℕ) (stamp : Stamp) → IsFlag 1 e → IsFlag 2 i → e + i ≡ bit_or (flags_spec.order_flag (told e)) (written_bodies.info_ts_flags (if i == 0 then Some stamp else None))
 time e i stamp (inl p) (inl q) = rw (p, q) refl
 time e i stamp (inl p) (inr q) = rw (p, q) refl
 time e i stamp (inr p) (inl q) = rw (p, q) refl
 time e i stamp (inr p) (inr q) = rw (p, q) refl
 
-pub time_flags_read : (flags : ℕ) (stamp : Stamp) → bit_and flags 3 ≡ bit_or (order_flag (order_of flags)) (info_ts_flags (if bit_and flags 2 == 0 then Some stamp else None))
+pub time_flags_read : (flags : ℕ) (stamp : Stamp) → bit_and flags 3 ≡ bit_or (flags_spec.order_flag (message.order_of flags)) (written_bodies.info_ts_flags (if bit_and flags 2 == 0 then Some stamp else None))
 time_flags_read flags stamp = low_two flags ∙ time (bit_and flags 1) (bit_and flags 2) stamp (is_flag flags 0 1 refl) (is_flag flags 1 2 refl)
 
-data_case : (e q d k : ℕ) (list : ListValue) (octets : List ℕ) → IsFlag 1 e → IsFlag 2 q → IsFlag 4 d → IsFlag 8 k → ((d == 4) && (k == 8)) ≡ false
-    → e + (q + (d + k)) ≡ bit_or (order_flag (told e)) (bit_or (qos_flag (if q == 2 then Some list else None)) (payload_flag (if d == 4 then Whole octets else if k == 8 then Key octets else Absent)))
+data_case : (e q d k : ℕ) (list : lists.ListValue) (octets : List ℕ) → IsFlag 1 e → IsFlag 2 q → IsFlag 4 d → IsFlag 8 k → ((d == 4) && (k == 8)) ≡ false
+    → e + (q + (d + k)) ≡ bit_or (flags_spec.order_flag (told e)) (bit_or (written_bodies.qos_flag (if q == 2 then Some list else None)) (written_bodies.payload_flag (if d == 4 then values.PayloadValue.Whole octets else if k == 8 then values.PayloadValue.Key octets else values.PayloadValue.Absent)))
 data_case e q d k list octets (inl o) (inl p) (inl r) (inl s) one = rw (o, p, r, s) refl
 data_case e q d k list octets (inl o) (inl p) (inl r) (inr s) one = rw (o, p, r, s) refl
 data_case e q d k list octets (inl o) (inl p) (inr r) (inl s) one = rw (o, p, r, s) refl
@@ -100,8 +99,8 @@ data_case e q d k list octets (inr o) (inr p) (inl r) (inr s) one = rw (o, p, r,
 data_case e q d k list octets (inr o) (inr p) (inr r) (inl s) one = rw (o, p, r, s) refl
 data_case e q d k list octets o p (inr r) (inr s) one = let no : true ≡ false = rw (r, s) at one in cc
 
-pub data_flags_read : (order : Order) (flags : ℕ) (list behind : List ℕ) → (has_data flags && has_key flags) ≡ false
-    → bit_and flags 15 ≡ bit_or (order_flag (order_of flags)) (bit_or (qos_flag (qos_of order flags list)) (payload_flag (payload_of flags behind)))
+pub data_flags_read : (order : Order) (flags : ℕ) (list behind : List ℕ) → (data_spec.has_data flags && data_spec.has_key flags) ≡ false
+    → bit_and flags 15 ≡ bit_or (flags_spec.order_flag (message.order_of flags)) (bit_or (written_bodies.qos_flag (data_spec.qos_of order flags list)) (written_bodies.payload_flag (data_spec.payload_of flags behind)))
 data_flags_read order flags list behind one =
     low_four flags
     ∙ data_case (bit_and flags 1) (bit_and flags 2) (bit_and flags 4) (bit_and flags 8) _ behind (is_flag flags 0 1 refl) (is_flag flags 1 2 refl) (is_flag flags 2 4 refl) (is_flag flags 3 8 refl) one

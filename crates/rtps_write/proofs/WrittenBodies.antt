@@ -4,71 +4,68 @@ use Rattle.std.specs.Prelude.{◌==◌, bit_or}
 use Rattle.std.proofs.lemmas.Bool.Decides.{nat_tests}
 use Rattle.rtps_ids.specs.declared.identity.Stamp.{Stamp}
 use Rattle.rtps_ids.specs.declared.order.Order.{Order}
-use Rattle.rtps_ids.specs.declared.order.Order.TheVariants.{Big, Little}
-use Rattle.rtps_params.specs.Lists.{ListValue}
-use Rattle.rtps_wire.specs.Message.{extent_of, order_of}
-use Rattle.rtps_wire.specs.Values.{BodyValue, PayloadValue}
-use Rattle.rtps_wire.specs.Values.BodyValue.{Data, Heartbeat, AckNack, Gap, InfoTs, InfoDst, InfoSrc, Skipped}
-use Rattle.rtps_wire.specs.Values.PayloadValue.{Absent, Whole, Key}
-use Rattle.rtps_write.specs.WrittenBodies.{info_ts_flags, payload_flag, qos_flag}
-use Rattle.rtps_write.specs.Flags.{flag_if, order_flag}
-use Rattle.rtps_write.specs.Written.{written_body, written_flags, written_id}
+use Rattle.rtps_params.specs.Lists as lists
+use Rattle.rtps_wire.specs.Message as message
+use Rattle.rtps_wire.specs.Values as values
+use Rattle.rtps_write.specs.WrittenBodies as written_bodies
+use Rattle.rtps_write.specs.Flags as flags
+use Rattle.rtps_write.specs.Written as written
 
-order_plain : (order : Order) → order_of (bit_or (order_flag order) 0) ≡ order
-order_plain Big = refl
-order_plain Little = refl
+order_plain : (order : Order) → message.order_of (bit_or (flags.order_flag order) 0) ≡ order
+order_plain Order.Big = refl
+order_plain Order.Little = refl
 
-order_data : (order : Order) (qos : Option ListValue) (payload : PayloadValue) → order_of (bit_or (order_flag order) (bit_or (qos_flag qos) (payload_flag payload))) ≡ order
-order_data Big None Absent = refl
-order_data Big None (Whole octets) = refl
-order_data Big None (Key octets) = refl
-order_data Big (Some list) Absent = refl
-order_data Big (Some list) (Whole octets) = refl
-order_data Big (Some list) (Key octets) = refl
-order_data Little None Absent = refl
-order_data Little None (Whole octets) = refl
-order_data Little None (Key octets) = refl
-order_data Little (Some list) Absent = refl
-order_data Little (Some list) (Whole octets) = refl
-order_data Little (Some list) (Key octets) = refl
+order_data : (order : Order) (qos : Option lists.ListValue) (payload : values.PayloadValue) → message.order_of (bit_or (flags.order_flag order) (bit_or (written_bodies.qos_flag qos) (written_bodies.payload_flag payload))) ≡ order
+order_data Order.Big None values.PayloadValue.Absent = refl
+order_data Order.Big None (values.PayloadValue.Whole octets) = refl
+order_data Order.Big None (values.PayloadValue.Key octets) = refl
+order_data Order.Big (Some list) values.PayloadValue.Absent = refl
+order_data Order.Big (Some list) (values.PayloadValue.Whole octets) = refl
+order_data Order.Big (Some list) (values.PayloadValue.Key octets) = refl
+order_data Order.Little None values.PayloadValue.Absent = refl
+order_data Order.Little None (values.PayloadValue.Whole octets) = refl
+order_data Order.Little None (values.PayloadValue.Key octets) = refl
+order_data Order.Little (Some list) values.PayloadValue.Absent = refl
+order_data Order.Little (Some list) (values.PayloadValue.Whole octets) = refl
+order_data Order.Little (Some list) (values.PayloadValue.Key octets) = refl
 
-order_heartbeat : (order : Order) (is_final live : Bool) → order_of (bit_or (order_flag order) (bit_or (flag_if is_final 2) (flag_if live 4))) ≡ order
-order_heartbeat Big true true = refl
-order_heartbeat Big true false = refl
-order_heartbeat Big false true = refl
-order_heartbeat Big false false = refl
-order_heartbeat Little true true = refl
-order_heartbeat Little true false = refl
-order_heartbeat Little false true = refl
-order_heartbeat Little false false = refl
+order_heartbeat : (order : Order) (is_final live : Bool) → message.order_of (bit_or (flags.order_flag order) (bit_or (flags.flag_if is_final 2) (flags.flag_if live 4))) ≡ order
+order_heartbeat Order.Big true true = refl
+order_heartbeat Order.Big true false = refl
+order_heartbeat Order.Big false true = refl
+order_heartbeat Order.Big false false = refl
+order_heartbeat Order.Little true true = refl
+order_heartbeat Order.Little true false = refl
+order_heartbeat Order.Little false true = refl
+order_heartbeat Order.Little false false = refl
 
-order_ack_nack : (order : Order) (is_final : Bool) → order_of (bit_or (order_flag order) (flag_if is_final 2)) ≡ order
-order_ack_nack Big true = refl
-order_ack_nack Big false = refl
-order_ack_nack Little true = refl
-order_ack_nack Little false = refl
+order_ack_nack : (order : Order) (is_final : Bool) → message.order_of (bit_or (flags.order_flag order) (flags.flag_if is_final 2)) ≡ order
+order_ack_nack Order.Big true = refl
+order_ack_nack Order.Big false = refl
+order_ack_nack Order.Little true = refl
+order_ack_nack Order.Little false = refl
 
-order_time : (order : Order) (time : Option Stamp) → order_of (bit_or (order_flag order) (info_ts_flags time)) ≡ order
-order_time Big None = refl
-order_time Big (Some stamp) = refl
-order_time Little None = refl
-order_time Little (Some stamp) = refl
+order_time : (order : Order) (time : Option Stamp) → message.order_of (bit_or (flags.order_flag order) (written_bodies.info_ts_flags time)) ≡ order
+order_time Order.Big None = refl
+order_time Order.Big (Some stamp) = refl
+order_time Order.Little None = refl
+order_time Order.Little (Some stamp) = refl
 
-pub order_same : (order : Order) (body : BodyValue) → order_of (written_flags order body) ≡ order
-order_same order (Data body) = order_data order body.qos body.payload
-order_same order (Heartbeat body) = order_heartbeat order body.is_final body.live
-order_same order (AckNack body) = order_ack_nack order body.is_final
-order_same order (Gap body) = order_plain order
-order_same order (InfoTs time) = order_time order time
-order_same order (InfoDst prefix) = order_plain order
-order_same order (InfoSrc version vendor prefix) = order_plain order
-order_same order (Skipped id) = order_plain order
+pub order_same : (order : Order) (body : values.BodyValue) → message.order_of (written.written_flags order body) ≡ order
+order_same order (values.BodyValue.Data body) = order_data order body.qos body.payload
+order_same order (values.BodyValue.Heartbeat body) = order_heartbeat order body.is_final body.live
+order_same order (values.BodyValue.AckNack body) = order_ack_nack order body.is_final
+order_same order (values.BodyValue.Gap body) = order_plain order
+order_same order (values.BodyValue.InfoTs time) = order_time order time
+order_same order (values.BodyValue.InfoDst prefix) = order_plain order
+order_same order (values.BodyValue.InfoSrc version vendor prefix) = order_plain order
+order_same order (values.BodyValue.Skipped id) = order_plain order
 
 -- a body that is not empty has the extent that is written
-pub extent_some : (order : Order) (body : BodyValue) (left : ℕ) → 0 < length (written_body order body)
-    → extent_of (written_id body) (length (written_body order body)) left ≡ length (written_body order body)
+pub extent_some : (order : Order) (body : values.BodyValue) (left : ℕ) → 0 < length (written.written_body order body)
+    → message.extent_of (written.written_id body) (length (written.written_body order body)) left ≡ length (written.written_body order body)
 extent_some order body left some =
-    let other : (length (written_body order body) == 0) ≡ false = positive_test (length (written_body order body)) some in rw other refl
+    let other : (length (written.written_body order body) == 0) ≡ false = positive_test (length (written.written_body order body)) some in rw other refl
   where
     positive_test : (size : ℕ) → 0 < size → (size == 0) ≡ false
     positive_test size some = grind (arith, nat_tests)

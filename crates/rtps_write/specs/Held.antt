@@ -1,14 +1,13 @@
 -- What is true of every item of the code. own: the types of the code ensure it: numbers are in the range of their
 -- types, arrays have their lengths, sets are sets of the code, and an inline QoS is a parameter list.
 use Rattle.std.specs.Prelude.{ℕ, ◌≡◌, ◌<◌, ◌<ℤ◌, ◌^◌, pos, length, All, Option, Some, None}
-use Rattle.rtps_ids.specs.NumberSet.{IsKeptSet, NumberSetValue}
+use Rattle.rtps_ids.specs.NumberSet as number_set
 use Rattle.rtps_ids.specs.declared.identity.EntityId.{EntityId}
 use Rattle.rtps_ids.specs.declared.identity.Stamp.{Stamp}
-use Rattle.rtps_params.specs.Grammar.{IsList}
-use Rattle.rtps_params.specs.Reading.{pairs_of}
-use Rattle.rtps_params.specs.Lists.{ListValue}
-use Rattle.rtps_wire.specs.Values.{BodyValue, DataValue, ItemValue}
-use Rattle.rtps_wire.specs.Values.BodyValue.{Data, Heartbeat, AckNack, Gap, InfoTs, InfoDst, InfoSrc, Skipped}
+use Rattle.rtps_params.specs.Grammar as grammar
+use Rattle.rtps_params.specs.Reading as reading
+use Rattle.rtps_params.specs.Lists as lists
+use Rattle.rtps_wire.specs.Values as values
 use Rattle.rtps_wire.specs.declared.body.AckNackBody.{AckNackBody}
 use Rattle.rtps_wire.specs.declared.body.GapBody.{GapBody}
 use Rattle.rtps_wire.specs.declared.body.HeartbeatBody.{HeartbeatBody}
@@ -28,17 +27,17 @@ abbrev pub IsHeldNumber : ℕ → Type 0
 IsHeldNumber number = (0 < number) × (number < 2 ^ 63)
 
 -- a set of the code, in words of 32 bits
-pub record IsHeldSet (set : NumberSetValue) : Type 0 where
-  pub kept : IsKeptSet set
+pub record IsHeldSet (set : number_set.NumberSetValue) : Type 0 where
+  pub kept : number_set.IsKeptSet set
   pub words : All (λ word. word < 2 ^ 32) set.words
 
 -- an inline QoS that is a parameter list in its order
-abbrev pub IsHeldQos : Option ListValue → Type 0
+abbrev pub IsHeldQos : Option lists.ListValue → Type 0
 IsHeldQos None = Unit {0}
-IsHeldQos (Some list) = IsList list.order (pairs_of list.order list.octets) list.octets
+IsHeldQos (Some list) = grammar.IsList list.order (reading.pairs_of list.order list.octets) list.octets
 
 -- a DATA; any octets may be its payload
-pub record IsHeldData (body : DataValue) : Type 0 where
+pub record IsHeldData (body : values.DataValue) : Type 0 where
   pub reader : IsHeldEntity body.reader
   pub writer : IsHeldEntity body.writer
   pub number : IsHeldNumber body.number
@@ -72,16 +71,16 @@ IsHeldTime None = Unit {0}
 IsHeldTime (Some stamp) = (stamp.seconds < 2 ^ 32) × (stamp.fraction < 2 ^ 32)
 
 -- a body whose fields are in the range of their types
-abbrev pub IsHeldBody : BodyValue → Type 0
-IsHeldBody (Data body) = IsHeldData body
-IsHeldBody (Heartbeat body) = IsHeldHeartbeat body
-IsHeldBody (AckNack body) = IsHeldAckNack body
-IsHeldBody (Gap body) = IsHeldGap body
-IsHeldBody (InfoTs time) = IsHeldTime time
-IsHeldBody (InfoDst prefix) = length prefix.0 ≡ 12
-IsHeldBody (InfoSrc version vendor prefix) = (length vendor.0 ≡ 2) × (length prefix.0 ≡ 12)
-IsHeldBody (Skipped id) = Unit {0}
+abbrev pub IsHeldBody : values.BodyValue → Type 0
+IsHeldBody (values.BodyValue.Data body) = IsHeldData body
+IsHeldBody (values.BodyValue.Heartbeat body) = IsHeldHeartbeat body
+IsHeldBody (values.BodyValue.AckNack body) = IsHeldAckNack body
+IsHeldBody (values.BodyValue.Gap body) = IsHeldGap body
+IsHeldBody (values.BodyValue.InfoTs time) = IsHeldTime time
+IsHeldBody (values.BodyValue.InfoDst prefix) = length prefix.0 ≡ 12
+IsHeldBody (values.BodyValue.InfoSrc version vendor prefix) = (length vendor.0 ≡ 2) × (length prefix.0 ≡ 12)
+IsHeldBody (values.BodyValue.Skipped id) = Unit {0}
 
 -- an item whose body is in the range of its types
-abbrev pub IsHeldItem : ItemValue → Type 0
+abbrev pub IsHeldItem : values.ItemValue → Type 0
 IsHeldItem item = IsHeldBody item.body

@@ -1,7 +1,7 @@
 ghost use Rattle.std.specs.Prelude.{◌≡◌, ◌++◌, length, take, vec_len, OnOk, ◌<◌, ◌≤◌, ◌+◌, vec_capacity, OnErr};
 ghost use Rattle.rtps_ids.specs.declared.order.Order.{Order};
-ghost use Rattle.rtps_write.specs.Held.{IsHeldAckNack};
-ghost use Rattle.rtps_write.specs.WrittenBodies.{ack_nack_flags, ack_nack_octets};
+ghost use Rattle.rtps_write.specs.Held as held;
+ghost use Rattle.rtps_write.specs.WrittenBodies as written_bodies;
 
 use crate::fields::{flag, put_entities, put_set, set_size};
 use rtps_ids::layout::set;
@@ -11,7 +11,7 @@ use rtps_wire::layout::ack_nack;
 
 /// The flags of an ACKNACK.
 pub(crate) fn flags(body: &AckNackBody) -> u8
-    ensures { result ≡ ack_nack_flags body.now }
+    ensures { result ≡ written_bodies.ack_nack_flags body.now }
 {
     flag(body.is_final, ack_nack::FINAL)
 }
@@ -19,8 +19,8 @@ pub(crate) fn flags(body: &AckNackBody) -> u8
 /// How many octets the body of an ACKNACK has.
 #[tactic(auto, using(crate::proofs::WrittenAckNack::ack_nack_long))]
 pub(crate) fn size(body: AckNackBody) -> u16
-    ensures held { IsHeldAckNack body }
-    ensures size { (order : Order) → length (ack_nack_octets order body) ≡ result }
+    ensures held { held.IsHeldAckNack body }
+    ensures size { (order : Order) → length (written_bodies.ack_nack_octets order body) ≡ result }
 {
     (ack_nack::LEAST - set::WORDS) as u16 + set_size(body.set)
 }
@@ -28,9 +28,9 @@ pub(crate) fn size(body: AckNackBody) -> u16
 /// Appends the body of an ACKNACK.
 #[tactic(auto, using(crate::proofs::WrittenFields::lengths))]
 pub(crate) fn ack_nack(order: Order, body: &AckNackBody, out: &mut Vec<u8>) -> Result<(), Memory>
-    ensures written { OnOk result (out.new.items ≡ out.old.items ++ ack_nack_octets order body.now) }
+    ensures written { OnOk result (out.new.items ≡ out.old.items ++ written_bodies.ack_nack_octets order body.now) }
     ensures kept { take (vec_len out.old) out.new.items ≡ out.old.items }
-    ensures full { OnErr result (vec_capacity out.old < vec_len out.old + length (ack_nack_octets order body.now)) }
+    ensures full { OnErr result (vec_capacity out.old < vec_len out.old + length (written_bodies.ack_nack_octets order body.now)) }
     ensures room { vec_capacity out.old ≤ vec_capacity out.new }
 {
     put_entities(&body.reader, &body.writer, out)?;

@@ -1,9 +1,8 @@
 ghost use Rattle.std.specs.Prelude.{◌≡◌, ◌≤◌, ◌++◌, ◌^◌, length, take, vec_len, MatchOption, OnOk, ◌<◌, ◌+◌, vec_capacity, OnErr};
-ghost use Rattle.rtps_write.specs.WrittenBodies.{data_flags, data_octets, field_octets};
 ghost use Rattle.rtps_write.specs.WrittenBodies as written_bodies;
 ghost use Rattle.rtps_ids.specs.declared.order.Order.{Order};
-ghost use Rattle.rtps_write.specs.Held.{IsHeldData};
-ghost use Rattle.rtps_wire.specs.Values.{data_value, payload_value};
+ghost use Rattle.rtps_write.specs.Held as held;
+ghost use Rattle.rtps_wire.specs.Values as values;
 
 use crate::fields::{entity_size, number_size, put_entities};
 use rtps_ids::{Memory, Order, put_number, put_u16};
@@ -12,7 +11,7 @@ use rtps_wire::{DataBody, Payload};
 
 /// Whether the inline QoS has another order than this.
 pub(crate) fn is_other_order(order: Order, body: &DataBody<'_>) -> bool
-    ensures { result ≡ written_bodies.is_other_order order (data_value body.now).qos }
+    ensures { result ≡ written_bodies.is_other_order order (values.data_value body.now).qos }
 {
     match body.qos {
         Some(list) => list.order() != order,
@@ -22,7 +21,7 @@ pub(crate) fn is_other_order(order: Order, body: &DataBody<'_>) -> bool
 
 /// The flags of a DATA.
 pub(crate) fn flags(body: &DataBody<'_>) -> u8
-    ensures { result ≡ data_flags (data_value body.now) }
+    ensures { result ≡ written_bodies.data_flags (values.data_value body.now) }
 {
     let qos = match body.qos {
         Some(_) => data::Q,
@@ -33,7 +32,7 @@ pub(crate) fn flags(body: &DataBody<'_>) -> u8
 
 /// The flag for a payload's kind.
 fn payload_flag(payload: &Payload<'_>) -> u8
-    ensures { result ≡ written_bodies.payload_flag (payload_value payload.now) }
+    ensures { result ≡ written_bodies.payload_flag (values.payload_value payload.now) }
 {
     match payload {
         Payload::Absent => 0,
@@ -44,7 +43,7 @@ fn payload_flag(payload: &Payload<'_>) -> u8
 
 /// The octets of a payload.
 fn payload_octets<'a>(payload: &Payload<'a>) -> &'a [u8]
-    ensures { result.now ≡ written_bodies.payload_octets (payload_value payload.now) }
+    ensures { result.now ≡ written_bodies.payload_octets (values.payload_value payload.now) }
 {
     match payload {
         Payload::Absent => &[],
@@ -54,8 +53,8 @@ fn payload_octets<'a>(payload: &Payload<'a>) -> &'a [u8]
 
 /// The size of the body of a DATA, or None if it is too large for octetsToNextHeader.
 pub(crate) fn size(body: &DataBody<'_>) -> Option<u16>
-    ensures held { IsHeldData (data_value body.now) }
-    ensures size { (order : Order) → MatchOption result (2 ^ 16 ≤ length (data_octets order (data_value body.now))) (λ size. length (data_octets order (data_value body.now)) ≡ size) }
+    ensures held { held.IsHeldData (values.data_value body.now) }
+    ensures size { (order : Order) → MatchOption result (2 ^ 16 ≤ length (written_bodies.data_octets order (values.data_value body.now))) (λ size. length (written_bodies.data_octets order (values.data_value body.now)) ≡ size) }
 {
     let fields = data::READER
         + entity_size(body.reader)
@@ -72,9 +71,9 @@ pub(crate) fn size(body: &DataBody<'_>) -> Option<u16>
 
 /// Appends the body of a DATA.
 pub(crate) fn data(order: Order, body: &DataBody<'_>, out: &mut Vec<u8>) -> Result<(), Memory>
-    ensures written { OnOk result (out.new.items ≡ out.old.items ++ data_octets order (data_value body.now)) }
+    ensures written { OnOk result (out.new.items ≡ out.old.items ++ written_bodies.data_octets order (values.data_value body.now)) }
     ensures kept { take (vec_len out.old) out.new.items ≡ out.old.items }
-    ensures full { OnErr result (vec_capacity out.old < vec_len out.old + length (data_octets order (data_value body.now))) }
+    ensures full { OnErr result (vec_capacity out.old < vec_len out.old + length (written_bodies.data_octets order (values.data_value body.now))) }
     ensures room { vec_capacity out.old ≤ vec_capacity out.new }
 {
     put_fields(order, body, out)?;
@@ -88,9 +87,9 @@ pub(crate) fn data(order: Order, body: &DataBody<'_>, out: &mut Vec<u8>) -> Resu
 /// Appends the fields of a DATA. Its inline QoS comes right after them.
 #[tactic(auto, using(crate::proofs::WrittenFields::lengths))]
 fn put_fields(order: Order, body: &DataBody<'_>, out: &mut Vec<u8>) -> Result<(), Memory>
-    ensures written { OnOk result (out.new.items ≡ out.old.items ++ field_octets order (data_value body.now)) }
+    ensures written { OnOk result (out.new.items ≡ out.old.items ++ written_bodies.field_octets order (values.data_value body.now)) }
     ensures kept { take (vec_len out.old) out.new.items ≡ out.old.items }
-    ensures full { OnErr result (vec_capacity out.old < vec_len out.old + length (field_octets order (data_value body.now))) }
+    ensures full { OnErr result (vec_capacity out.old < vec_len out.old + length (written_bodies.field_octets order (values.data_value body.now))) }
     ensures room { vec_capacity out.old ≤ vec_capacity out.new }
 {
     out.extend_from_slice(&[0, 0])?;

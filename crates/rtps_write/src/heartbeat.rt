@@ -1,7 +1,6 @@
 ghost use Rattle.std.specs.Prelude.{◌≡◌, ◌++◌, length, take, vec_len, OnOk, ◌<◌, ◌≤◌, ◌+◌, vec_capacity, OnErr};
 ghost use Rattle.rtps_ids.specs.declared.order.Order.{Order};
-ghost use Rattle.rtps_write.specs.Held.{IsHeldHeartbeat};
-ghost use Rattle.rtps_write.specs.WrittenBodies.{heartbeat_flags, heartbeat_octets};
+ghost use Rattle.rtps_write.specs.Held as held;
 ghost use Rattle.rtps_write.specs.WrittenBodies as written_bodies;
 
 use crate::fields::{flag, put_entities};
@@ -18,7 +17,7 @@ pub(crate) fn is_bad_range(body: &HeartbeatBody) -> bool
 
 /// The flags of a HEARTBEAT.
 pub(crate) fn flags(body: &HeartbeatBody) -> u8
-    ensures { result ≡ heartbeat_flags body.now }
+    ensures { result ≡ written_bodies.heartbeat_flags body.now }
 {
     flag(body.is_final, heartbeat::FINAL) | flag(body.live, heartbeat::LIVELINESS)
 }
@@ -26,8 +25,8 @@ pub(crate) fn flags(body: &HeartbeatBody) -> u8
 /// How many octets the body of a HEARTBEAT has.
 #[tactic(auto, using(crate::proofs::WrittenHeartbeat::heartbeat_long))]
 pub(crate) fn size(body: HeartbeatBody) -> u16
-    ensures held { IsHeldHeartbeat body }
-    ensures size { (order : Order) → length (heartbeat_octets order body) ≡ result }
+    ensures held { held.IsHeldHeartbeat body }
+    ensures size { (order : Order) → length (written_bodies.heartbeat_octets order body) ≡ result }
 {
     // Called only because its contract gives the range of the number.
     let _first = body.first.get();
@@ -37,9 +36,9 @@ pub(crate) fn size(body: HeartbeatBody) -> u16
 /// Appends the body of a HEARTBEAT.
 #[tactic(auto, using(crate::proofs::WrittenFields::lengths))]
 pub(crate) fn heartbeat(order: Order, body: &HeartbeatBody, out: &mut Vec<u8>) -> Result<(), Memory>
-    ensures written { OnOk result (out.new.items ≡ out.old.items ++ heartbeat_octets order body.now) }
+    ensures written { OnOk result (out.new.items ≡ out.old.items ++ written_bodies.heartbeat_octets order body.now) }
     ensures kept { take (vec_len out.old) out.new.items ≡ out.old.items }
-    ensures full { OnErr result (vec_capacity out.old < vec_len out.old + length (heartbeat_octets order body.now)) }
+    ensures full { OnErr result (vec_capacity out.old < vec_len out.old + length (written_bodies.heartbeat_octets order body.now)) }
     ensures room { vec_capacity out.old ≤ vec_capacity out.new }
 {
     put_entities(&body.reader, &body.writer, out)?;

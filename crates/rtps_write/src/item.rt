@@ -1,10 +1,8 @@
 ghost use Rattle.std.specs.Prelude.{◌≡◌, ◌≤◌, ◌<◌, ◌++◌, ◌^◌, length, take, vec_len, MatchOption, OnOk, ◌+◌, vec_capacity, OnErr};
 ghost use Rattle.rtps_ids.specs.declared.order.Order.{Order};
-ghost use Rattle.rtps_write.specs.Held.{IsHeldBody, IsHeldItem};
-ghost use Rattle.rtps_wire.specs.Values.{body_value, item_value};
-ghost use Rattle.rtps_write.specs.Writable.{item_fault};
+ghost use Rattle.rtps_write.specs.Held as held;
+ghost use Rattle.rtps_wire.specs.Values as values;
 ghost use Rattle.rtps_write.specs.Writable as writable;
-ghost use Rattle.rtps_write.specs.Written.{item_octets, written_body, written_id};
 ghost use Rattle.rtps_write.specs.Written as written_spec;
 
 use crate::fields::order_flag;
@@ -16,7 +14,7 @@ use rtps_wire::{Body, Item};
 
 /// Whether no submessage of this order can have this body.
 fn is_not_writable(order: Order, body: &Body<'_>) -> bool
-    ensures { result ≡ writable.is_not_writable order (body_value body.now) }
+    ensures { result ≡ writable.is_not_writable order (values.body_value body.now) }
 {
     match body {
         Body::Skipped { .. } => true,
@@ -29,8 +27,8 @@ fn is_not_writable(order: Order, body: &Body<'_>) -> bool
 
 /// The size of a body, or None if it is too large for octetsToNextHeader.
 pub(crate) fn size(body: &Body<'_>) -> Option<u16>
-    ensures held { IsHeldBody (body_value body.now) }
-    ensures size { (order : Order) → MatchOption result (2 ^ 16 ≤ length (written_body order (body_value body.now))) (λ size. length (written_body order (body_value body.now)) ≡ size) }
+    ensures held { held.IsHeldBody (values.body_value body.now) }
+    ensures size { (order : Order) → MatchOption result (2 ^ 16 ≤ length (written_spec.written_body order (values.body_value body.now))) (λ size. length (written_spec.written_body order (values.body_value body.now)) ≡ size) }
 {
     match body {
         Body::Data(body) => data::size(body),
@@ -50,8 +48,8 @@ pub(crate) fn size(body: &Body<'_>) -> Option<u16>
 
 /// Why an item is not written, if it is not. It matters whether it is the last one.
 pub(crate) fn refusal(item: &Item<'_>, is_last: bool) -> Option<WriteFault>
-    ensures fault { result ≡ item_fault is_last (item_value item.now) }
-    ensures held { IsHeldItem (item_value item.now) }
+    ensures fault { result ≡ writable.item_fault is_last (values.item_value item.now) }
+    ensures held { held.IsHeldItem (values.item_value item.now) }
 {
     let size = size(&item.body);
     if is_not_writable(item.order, &item.body) {
@@ -68,7 +66,7 @@ pub(crate) fn refusal(item: &Item<'_>, is_last: bool) -> Option<WriteFault>
 
 /// The id of the submessage of a body.
 fn id_of(body: &Body<'_>) -> u8
-    ensures { result ≡ written_id (body_value body.now) }
+    ensures { result ≡ written_spec.written_id (values.body_value body.now) }
 {
     match body {
         Body::Data(_) => id::DATA,
@@ -84,7 +82,7 @@ fn id_of(body: &Body<'_>) -> u8
 
 /// The flags of a body, except flag E.
 fn own_flags(body: &Body<'_>) -> u8
-    ensures { result ≡ written_spec.own_flags (body_value body.now) }
+    ensures { result ≡ written_spec.own_flags (values.body_value body.now) }
 {
     match body {
         Body::Data(body) => data::flags(body),
@@ -97,9 +95,9 @@ fn own_flags(body: &Body<'_>) -> u8
 
 /// Appends a body.
 fn put_body(order: Order, body: &Body<'_>, out: &mut Vec<u8>) -> Result<(), Memory>
-    ensures written { OnOk result (out.new.items ≡ out.old.items ++ written_body order (body_value body.now)) }
+    ensures written { OnOk result (out.new.items ≡ out.old.items ++ written_spec.written_body order (values.body_value body.now)) }
     ensures kept { take (vec_len out.old) out.new.items ≡ out.old.items }
-    ensures full { OnErr result (vec_capacity out.old < vec_len out.old + length (written_body order (body_value body.now))) }
+    ensures full { OnErr result (vec_capacity out.old < vec_len out.old + length (written_spec.written_body order (values.body_value body.now))) }
     ensures room { vec_capacity out.old ≤ vec_capacity out.new }
 {
     match body {
@@ -121,10 +119,10 @@ fn put_body(order: Order, body: &Body<'_>, out: &mut Vec<u8>) -> Result<(), Memo
 /// Appends an item, whose body is not too long.
 #[tactic(auto, using(crate::proofs::WrittenFields::lengths))]
 pub(crate) fn put_item(item: &Item<'_>, out: &mut Vec<u8>) -> Result<(), Memory>
-    requires { length (written_body item.now.order (body_value item.now.body)) < 2 ^ 16 }
-    ensures written { OnOk result (out.new.items ≡ out.old.items ++ item_octets (item_value item.now)) }
+    requires { length (written_spec.written_body item.now.order (values.body_value item.now.body)) < 2 ^ 16 }
+    ensures written { OnOk result (out.new.items ≡ out.old.items ++ written_spec.item_octets (values.item_value item.now)) }
     ensures kept { take (vec_len out.old) out.new.items ≡ out.old.items }
-    ensures full { OnErr result (vec_capacity out.old < vec_len out.old + length (item_octets (item_value item.now))) }
+    ensures full { OnErr result (vec_capacity out.old < vec_len out.old + length (written_spec.item_octets (values.item_value item.now))) }
     ensures room { vec_capacity out.old ≤ vec_capacity out.new }
 {
     let flags = order_flag(item.order) | own_flags(&item.body);

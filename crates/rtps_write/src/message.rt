@@ -1,10 +1,9 @@
 ghost use Rattle.std.specs.Prelude.{◌≡◌, ◌==◌, ◌++◌, drop, map, take, vec_len, unwrap_or, All, IfErr, OnErr, IfNone, OnOk, None, ◌<◌, ◌≤◌, ◌+◌, length, vec_capacity};
 ghost use Rattle.std.specs.List.{flat_map};
-ghost use Rattle.rtps_write.specs.Written.{clean_reading, header_octets, item_octets, message_octets};
-ghost use Rattle.rtps_write.specs.Held.{IsHeldHeader, IsHeldItem};
-ghost use Rattle.rtps_wire.specs.Reading.{reading_of};
-ghost use Rattle.rtps_wire.specs.Values.{item_value};
-ghost use Rattle.rtps_write.specs.Writable.{items_fault};
+ghost use Rattle.rtps_write.specs.Written as written;
+ghost use Rattle.rtps_write.specs.Held as held;
+ghost use Rattle.rtps_wire.specs.Reading as reading;
+ghost use Rattle.rtps_wire.specs.Values as values;
 ghost use Rattle.rtps_write.specs.Writable as writable_spec;
 ghost use Rattle.rtps_wire.specs.declared.layout.header.TheConstants.{SIZE, VERSION};
 
@@ -27,14 +26,14 @@ pub fn write_message(
     items: &[Item<'_>],
     out: &mut Vec<u8>,
 ) -> Result<(), WriteFault>
-    ensures written { OnOk result (out.new.items ≡ out.old.items ++ message_octets header.now (map item_value items.now)) }
+    ensures written { OnOk result (out.new.items ≡ out.old.items ++ written.message_octets header.now (map values.item_value items.now)) }
     // What was appended reads back.
-    ensures reads_back { OnOk result (reading_of (drop (vec_len out.old) out.new.items) ≡ clean_reading header.now (map item_value items.now)) }
-    ensures writable { OnOk result (writable_spec.write_fault header.now (map item_value items.now) ≡ None) }
-    ensures fault { IfErr result (λ fault. fault ≡ unwrap_or (writable_spec.write_fault header.now (map item_value items.now)) WriteFault.Memory) }
+    ensures reads_back { OnOk result (reading.reading_of (drop (vec_len out.old) out.new.items) ≡ written.clean_reading header.now (map values.item_value items.now)) }
+    ensures writable { OnOk result (writable_spec.write_fault header.now (map values.item_value items.now) ≡ None) }
+    ensures fault { IfErr result (λ fault. fault ≡ unwrap_or (writable_spec.write_fault header.now (map values.item_value items.now)) WriteFault.Memory) }
     ensures unchanged { OnErr result (out.new.items ≡ out.old.items) }
-    ensures full { writable_spec.write_fault header.now (map item_value items.now) ≡ None → OnErr result
-        (vec_capacity out.old < vec_len out.old + length (message_octets header.now (map item_value items.now))) }
+    ensures full { writable_spec.write_fault header.now (map values.item_value items.now) ≡ None → OnErr result
+        (vec_capacity out.old < vec_len out.old + length (written.message_octets header.now (map values.item_value items.now))) }
     ensures room { vec_capacity out.old ≤ vec_capacity out.new }
 {
     if let Some(fault) = refusal(header, items) {
@@ -52,9 +51,9 @@ pub fn write_message(
 
 /// The first fault of a message, if it has one.
 fn refusal(header: &Header, items: &[Item<'_>]) -> Option<WriteFault>
-    ensures fault { result ≡ writable_spec.write_fault header.now (map item_value items.now) }
-    ensures header { IsHeldHeader header.now }
-    ensures items { IfNone result (All IsHeldItem (map item_value items.now)) }
+    ensures fault { result ≡ writable_spec.write_fault header.now (map values.item_value items.now) }
+    ensures header { held.IsHeldHeader header.now }
+    ensures items { IfNone result (All held.IsHeldItem (map values.item_value items.now)) }
 {
     let is_good = has_version(*header);
     if !is_good {
@@ -66,15 +65,15 @@ fn refusal(header: &Header, items: &[Item<'_>]) -> Option<WriteFault>
 /// Whether the header is of the version that is read.
 fn has_version(header: Header) -> bool
     ensures version { result ≡ (header.version.major == VERSION) }
-    ensures held { IsHeldHeader header }
+    ensures held { held.IsHeldHeader header }
 {
     header.version.major == header::VERSION
 }
 
 /// The first fault of items, if they have one.
 fn items_refusal(items: &[Item<'_>]) -> Option<WriteFault>
-    ensures fault { result ≡ items_fault (map item_value items.now) }
-    ensures held { IfNone result (All IsHeldItem (map item_value items.now)) }
+    ensures fault { result ≡ writable_spec.items_fault (map values.item_value items.now) }
+    ensures held { IfNone result (All held.IsHeldItem (map values.item_value items.now)) }
 {
     for (i, item) in items.iter().enumerate() {
         if let Some(fault) = item::refusal(item, i + 1 == items.len()) {
@@ -86,11 +85,11 @@ fn items_refusal(items: &[Item<'_>]) -> Option<WriteFault>
 
 /// Appends a message that has no fault.
 fn put_message(header: &Header, items: &[Item<'_>], out: &mut Vec<u8>) -> Result<(), Memory>
-    requires held { IsHeldHeader header.now }
-    requires good { items_fault (map item_value items.now) ≡ None }
-    ensures written { OnOk result (out.new.items ≡ out.old.items ++ message_octets header.now (map item_value items.now)) }
+    requires held { held.IsHeldHeader header.now }
+    requires good { writable_spec.items_fault (map values.item_value items.now) ≡ None }
+    ensures written { OnOk result (out.new.items ≡ out.old.items ++ written.message_octets header.now (map values.item_value items.now)) }
     ensures kept { take (vec_len out.old) out.new.items ≡ out.old.items }
-    ensures full { OnErr result (vec_capacity out.old < vec_len out.old + length (message_octets header.now (map item_value items.now))) }
+    ensures full { OnErr result (vec_capacity out.old < vec_len out.old + length (written.message_octets header.now (map values.item_value items.now))) }
     ensures room { vec_capacity out.old ≤ vec_capacity out.new }
 {
     out.reserve(room_for(items))?;
@@ -100,7 +99,7 @@ fn put_message(header: &Header, items: &[Item<'_>], out: &mut Vec<u8>) -> Result
 
 /// How many octets to reserve for a message of these items: no more than it has.
 fn room_for(items: &[Item<'_>]) -> usize
-    ensures { result ≤ SIZE + length (flat_map item_octets (map item_value items.now)) }
+    ensures { result ≤ SIZE + length (flat_map written.item_octets (map values.item_value items.now)) }
 {
     let mut room = header::SIZE;
     for item in items {
@@ -112,9 +111,9 @@ fn room_for(items: &[Item<'_>]) -> usize
 
 /// Appends a header.
 fn put_header(header: &Header, out: &mut Vec<u8>) -> Result<(), Memory>
-    ensures written { OnOk result (out.new.items ≡ out.old.items ++ header_octets header.now) }
+    ensures written { OnOk result (out.new.items ≡ out.old.items ++ written.header_octets header.now) }
     ensures kept { take (vec_len out.old) out.new.items ≡ out.old.items }
-    ensures full { OnErr result (vec_capacity out.old < vec_len out.old + length (header_octets header.now)) }
+    ensures full { OnErr result (vec_capacity out.old < vec_len out.old + length (written.header_octets header.now)) }
     ensures room { vec_capacity out.old ≤ vec_capacity out.new }
 {
     let version = header.version;
@@ -127,10 +126,10 @@ fn put_header(header: &Header, out: &mut Vec<u8>) -> Result<(), Memory>
 
 /// Appends items that have no fault.
 fn put_items(items: &[Item<'_>], out: &mut Vec<u8>) -> Result<(), Memory>
-    requires { items_fault (map item_value items.now) ≡ None }
-    ensures written { OnOk result (out.new.items ≡ out.old.items ++ flat_map item_octets (map item_value items.now)) }
+    requires { writable_spec.items_fault (map values.item_value items.now) ≡ None }
+    ensures written { OnOk result (out.new.items ≡ out.old.items ++ flat_map written.item_octets (map values.item_value items.now)) }
     ensures kept { take (vec_len out.old) out.new.items ≡ out.old.items }
-    ensures full { OnErr result (vec_capacity out.old < vec_len out.old + length (flat_map item_octets (map item_value items.now))) }
+    ensures full { OnErr result (vec_capacity out.old < vec_len out.old + length (flat_map written.item_octets (map values.item_value items.now))) }
     ensures room { vec_capacity out.old ≤ vec_capacity out.new }
 {
     for item in items {

@@ -1,5 +1,5 @@
 ghost use Rattle.std.specs.Prelude.{◌≡◌, Some};
-ghost use Rattle.rtps_write.specs.FaultText.{write_fault_name, write_fault_number};
+ghost use Rattle.rtps_write.specs.FaultText as fault_text;
 
 use std::error::Error;
 use std::fmt;
@@ -22,14 +22,14 @@ pub enum WriteFault {
 impl WriteFault {
     /// Its number, from 13 on, after those of `WireFault` of `rtps_wire`.
     pub fn number(self) -> u8
-        ensures { result ≡ write_fault_number self }
+        ensures { result ≡ fault_text.write_fault_number self }
     {
         self as u8
     }
 }
 
 impl fmt::Display for WriteFault {
-    ghost output = { λ fault. Some (write_fault_name fault) };
+    ghost output = { λ fault. Some (fault_text.write_fault_name fault) };
 
     /// Its name.
     #[tactic(auto, unfolding(crate::specs::FaultText::write_fault_name))]

@@ -1,7 +1,7 @@
 use Rattle.std.proofs.Common.{◌≡◌, ◌-◌, ◌*◌, ◌/◌, ◌&&◌, ◌++◌, Bool, ℕ, length, take, drop, sym, ap, ◌∙◌, arith}
 use Rattle.std.specs.List.{list_all}
 use Rattle.hex.specs.Hex.{is_hex_digit}
-use Rattle.rtps_digits.specs.Pairs.{pairs_of}
+use Rattle.rtps_digits.specs.Pairs as pairs
 use Rattle.rtps_digits.proofs.Decoding.{found_parts, octets_parts}
 use Rattle.rtps_digits.proofs.decode_long.Goals as goal
 
@@ -26,6 +26,6 @@ returns-then-found-clause-octets c ok =
     let place : length s - 32 ≡ 2 * k = omega arith in
     let found = sym (returns-then-found-clause-found c) ∙ ok in
     c.decode_last-found_last.ensures.octets ok
-    ∙ ap (λ (n : ℕ). take k c.decode_vectors-found.new.octets ++ pairs_of (drop n s)) place
+    ∙ ap (λ (n : ℕ). take k c.decode_vectors-found.new.octets ++ pairs.pairs_of (drop n s)) place
     ∙ octets_parts s c.decode_vectors-found.new.octets k (16 * (length c.args.octets.now / 16)) (32 * (length c.args.octets.now / 16)) (omega arith) (omega arith) (omega arith) (omega arith) found
     (c.decode_vectors-found.ensures.octets c.if-found.true)

@@ -1,9 +1,9 @@
 use Rattle.std.proofs.Common.{◌∙◌, ap, map}
 use Rattle.std.proofs.lemmas.Simd.{map-map, zip2_splat}
-use Rattle.rtps_digits.specs.Pairs.{half_digit}
+use Rattle.rtps_digits.specs.Pairs as pairs
 use Rattle.rtps_digits.proofs.first_digits.Goals as goal
 
 pub returns : goal.returns
 returns c =
     let vs = c.args.octets in
-    c.low_digits.ensures ∙ (ap (map half_digit) (zip2_splat _ vs 16 4 c.fits-octets.0) ∙ map-map half_digit _ vs)
+    c.low_digits.ensures ∙ (ap (map pairs.half_digit) (zip2_splat _ vs 16 4 c.fits-octets.0) ∙ map-map pairs.half_digit _ vs)

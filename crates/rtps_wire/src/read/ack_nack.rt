@@ -1,5 +1,5 @@
-ghost use Rattle.rtps_wire.specs.AckNack.{ack_nack_fault, ack_nack_of};
-ghost use Rattle.rtps_wire.specs.Fault.{ReadsOrFaults};
+ghost use Rattle.rtps_wire.specs.AckNack as ack_nack_spec;
+ghost use Rattle.rtps_wire.specs.Fault as fault;
 
 use super::fields::{entity_at, set_at};
 use crate::body::AckNackBody;
@@ -9,7 +9,7 @@ use rtps_ids::{Order, u32_at};
 
 /// Reads the body of an ACKNACK.
 pub(crate) fn ack_nack(order: Order, flags: u8, body: &[u8]) -> Result<AckNackBody, WireFault>
-    ensures { ReadsOrFaults (λ ack_nack. ack_nack) result (ack_nack_fault order body.now) (ack_nack_of order flags body.now) }
+    ensures { fault.ReadsOrFaults (λ ack_nack. ack_nack) result (ack_nack_spec.ack_nack_fault order body.now) (ack_nack_spec.ack_nack_of order flags body.now) }
 {
     if body.len() < ack_nack::LEAST {
         return Err(WireFault::ShortBody);

@@ -1,9 +1,8 @@
 ghost use Rattle.std.specs.Prelude.{◌≡◌, MatchResult};
-ghost use Rattle.rtps_wire.specs.Data.{data_fault, data_of};
 ghost use Rattle.rtps_wire.specs.Data as data_spec;
-ghost use Rattle.rtps_wire.specs.Fault.{ReadsOrFaults};
-ghost use Rattle.rtps_wire.specs.InlineQos.{HasQos, LacksQos};
-ghost use Rattle.rtps_wire.specs.Values.{data_value, payload_value};
+ghost use Rattle.rtps_wire.specs.Fault as fault;
+ghost use Rattle.rtps_wire.specs.InlineQos as inline_qos;
+ghost use Rattle.rtps_wire.specs.Values as values;
 
 use super::fields::{entity_at, rest_at};
 use crate::body::{DataBody, Payload};
@@ -17,7 +16,7 @@ use rtps_params::ParamList;
 /// Reads the body of a DATA.
 #[inline(always)]
 pub(crate) fn data(order: Order, flags: u8, body: &[u8]) -> Result<DataBody<'_>, WireFault>
-    ensures { ReadsOrFaults data_value result (data_fault order flags body.now) (data_of order flags body.now) }
+    ensures { fault.ReadsOrFaults values.data_value result (data_spec.data_fault order flags body.now) (data_spec.data_of order flags body.now) }
 {
     let flags = DataFlags::from_bits_retain(flags);
     let (Some(offset), Some(number)) = (
@@ -56,7 +55,7 @@ pub(super) fn inline_qos(
     order: Order,
     octets: &[u8],
 ) -> Result<(Option<ParamList<'_>>, &[u8]), WireFault>
-    ensures { MatchResult result (HasQos order flags.0 octets.now) (LacksQos order flags.0 octets.now) }
+    ensures { MatchResult result (inline_qos.HasQos order flags.0 octets.now) (inline_qos.LacksQos order flags.0 octets.now) }
 {
     if !flags.contains(DataFlags::Q) {
         return Ok((None, octets));
@@ -70,7 +69,7 @@ pub(super) fn inline_qos(
 /// The payload, which is all of these octets.
 #[inline(always)]
 fn payload(flags: DataFlags, octets: &[u8]) -> Payload<'_>
-    ensures { payload_value result ≡ data_spec.payload_of flags.0 octets.now }
+    ensures { values.payload_value result ≡ data_spec.payload_of flags.0 octets.now }
 {
     if flags.contains(DataFlags::D) {
         Payload::Whole(octets)

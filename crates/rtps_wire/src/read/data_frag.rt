@@ -1,6 +1,6 @@
 ghost use Rattle.std.specs.Prelude.{◌≡◌, ◌+◌, ◌-◌, ◌*◌, ◌&&◌, nat_le, false, length, take, true, MatchOption};
 ghost use Rattle.std.specs.Option.{option_map};
-ghost use Rattle.rtps_wire.specs.DataFrag.{begins_with_fragments, data_frag_in, data_frag_value, fragments_length};
+ghost use Rattle.rtps_wire.specs.DataFrag as data_frag_spec;
 
 use super::data::inline_qos;
 use super::fields::{entity_at, rest_at};
@@ -12,7 +12,7 @@ use rtps_ids::{Order, SeqNum, number_at, u16_at, u32_at};
 
 /// Reads the body of a DATA_FRAG, if it has fragments that can be used.
 pub(crate) fn data_frag(order: Order, flags: u8, body: &[u8]) -> Option<DataFrag<'_>>
-    ensures { option_map data_frag_value result ≡ data_frag_in order flags body.now }
+    ensures { option_map data_frag_spec.data_frag_value result ≡ data_frag_spec.data_frag_in order flags body.now }
 {
     let number = SeqNum::new(number_at(order, body, data_frag::NUMBER)?)?;
     let first = u32_at(order, body, data_frag::FIRST)?;
@@ -57,8 +57,8 @@ fn have_room(shape: Shape, count: u16, octets: &[u8]) -> bool
 /// The fragments at the beginning of these octets, from the fragment `first` on. None if the sample does not have them, if octets
 /// of them are absent, or if there are more octets than so many fragments may have.
 fn fragments(shape: Shape, first: u32, count: u16, octets: &[u8]) -> Option<&[u8]>
-    ensures { MatchOption result (begins_with_fragments shape first count octets.now ≡ false)
-        (λ found. (begins_with_fragments shape first count octets.now ≡ true) × (found.now ≡ take (fragments_length shape first (first + count - 1)) octets.now)) }
+    ensures { MatchOption result (data_frag_spec.begins_with_fragments shape first count octets.now ≡ false)
+        (λ found. (data_frag_spec.begins_with_fragments shape first count octets.now ≡ true) × (found.now ≡ take (data_frag_spec.fragments_length shape first (first + count - 1)) octets.now)) }
 {
     if shape.fragment == 0 || first == 0 || count == 0 || !have_room(shape, count, octets) {
         return None;

@@ -1,5 +1,5 @@
 ghost use Rattle.std.specs.Prelude.{◌≡◌, ◌≤◌, ◌+◌, drop, length, take, MatchResult};
-ghost use Rattle.rtps_wire.specs.SetField.{HasSet, LacksSet};
+ghost use Rattle.rtps_wire.specs.SetField as set_field;
 
 use crate::fault::WireFault;
 use rtps_ids::{EntityId, GuidPrefix, NumberSet, Order, SetFault, Vendor};
@@ -53,7 +53,7 @@ pub(crate) fn set_at(
     at: usize,
 ) -> Result<(NumberSet, usize), WireFault>
     requires { at + 12 ≤ length octets.now }
-    ensures { MatchResult result (HasSet order (drop at octets.now)) (LacksSet order (drop at octets.now)) }
+    ensures { MatchResult result (set_field.HasSet order (drop at octets.now)) (set_field.LacksSet order (drop at octets.now)) }
 {
     match NumberSet::read(order, rest_at(octets, at)) {
         Ok(found) => Ok(found),

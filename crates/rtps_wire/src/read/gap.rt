@@ -1,7 +1,7 @@
 ghost use Rattle.std.specs.Prelude.{◌≤◌, drop, length};
-ghost use Rattle.rtps_ids.specs.NumberSet.{spelled_set};
-ghost use Rattle.rtps_wire.specs.Fault.{ReadsOrFaults};
-ghost use Rattle.rtps_wire.specs.Gap.{gap_fault, gap_of, list_fault};
+ghost use Rattle.rtps_ids.specs.NumberSet as number_set;
+ghost use Rattle.rtps_wire.specs.Fault as fault;
+ghost use Rattle.rtps_wire.specs.Gap as gap_spec;
 ghost use Rattle.rtps_wire.specs.declared.layout.gap.TheConstants.{LEAST, LIST};
 
 use super::fields::{entity_at, set_at};
@@ -12,7 +12,7 @@ use rtps_ids::{NumberSet, Order, SeqNum, number_at};
 
 /// Reads the body of a GAP.
 pub(crate) fn gap(order: Order, body: &[u8]) -> Result<GapBody, WireFault>
-    ensures { ReadsOrFaults (λ gap. gap) result (gap_fault order body.now) (gap_of order body.now) }
+    ensures { fault.ReadsOrFaults (λ gap. gap) result (gap_spec.gap_fault order body.now) (gap_spec.gap_of order body.now) }
 {
     if body.len() < gap::LEAST {
         return Err(WireFault::ShortBody);
@@ -34,7 +34,7 @@ pub(crate) fn gap(order: Order, body: &[u8]) -> Result<GapBody, WireFault>
 /// Reads the list of a GAP.
 fn list(order: Order, body: &[u8]) -> Result<NumberSet, WireFault>
     requires { LEAST ≤ length body.now }
-    ensures { ReadsOrFaults (λ list. list) result (list_fault order body.now) (spelled_set order (drop LIST body.now)) }
+    ensures { fault.ReadsOrFaults (λ list. list) result (gap_spec.list_fault order body.now) (number_set.spelled_set order (drop LIST body.now)) }
 {
     let (list, _) = set_at(order, body, gap::LIST)?;
     if list.base() == 0 {

@@ -1,5 +1,5 @@
-ghost use Rattle.rtps_wire.specs.Fault.{ReadsOrFaults};
-ghost use Rattle.rtps_wire.specs.Heartbeat.{heartbeat_fault, heartbeat_of};
+ghost use Rattle.rtps_wire.specs.Fault as fault;
+ghost use Rattle.rtps_wire.specs.Heartbeat as heartbeat_spec;
 
 use super::fields::entity_at;
 use crate::body::HeartbeatBody;
@@ -10,7 +10,7 @@ use rtps_ids::{Order, SeqNum, number_at, u32_at};
 /// Reads the body of a HEARTBEAT.
 #[inline]
 pub(crate) fn heartbeat(order: Order, flags: u8, body: &[u8]) -> Result<HeartbeatBody, WireFault>
-    ensures { ReadsOrFaults (λ heartbeat. heartbeat) result (heartbeat_fault order body.now) (heartbeat_of order flags body.now) }
+    ensures { fault.ReadsOrFaults (λ heartbeat. heartbeat) result (heartbeat_spec.heartbeat_fault order body.now) (heartbeat_spec.heartbeat_of order flags body.now) }
 {
     let (Some(first), Some(last), Some(count)) = (
         number_at(order, body, heartbeat::FIRST),

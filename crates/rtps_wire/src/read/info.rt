@@ -1,5 +1,5 @@
-ghost use Rattle.rtps_wire.specs.Fault.{ReadsOrFaults};
-ghost use Rattle.rtps_wire.specs.Info.{info_dst_fault, info_dst_of, info_src_fault, info_src_of, info_ts_fault, info_ts_of};
+ghost use Rattle.rtps_wire.specs.Fault as fault;
+ghost use Rattle.rtps_wire.specs.Info as info;
 
 use super::fields::{prefix_at, vendor_at};
 use crate::fault::WireFault;
@@ -9,7 +9,7 @@ use rtps_ids::{GuidPrefix, Order, Stamp, Version, u32_at};
 
 /// Reads the body of an INFO_TS.
 pub(crate) fn info_ts(order: Order, flags: u8, body: &[u8]) -> Result<Option<Stamp>, WireFault>
-    ensures { ReadsOrFaults (λ stamp. stamp) result (info_ts_fault flags body.now) (info_ts_of order flags body.now) }
+    ensures { fault.ReadsOrFaults (λ stamp. stamp) result (info.info_ts_fault flags body.now) (info.info_ts_of order flags body.now) }
 {
     if flags & info_ts::INVALIDATE != 0 {
         return Ok(None);
@@ -25,7 +25,7 @@ pub(crate) fn info_ts(order: Order, flags: u8, body: &[u8]) -> Result<Option<Sta
 
 /// Reads the body of an INFO_DST.
 pub(crate) fn info_dst(body: &[u8]) -> Result<GuidPrefix, WireFault>
-    ensures { ReadsOrFaults (λ prefix. prefix) result (info_dst_fault body.now) (info_dst_of body.now) }
+    ensures { fault.ReadsOrFaults (λ prefix. prefix) result (info.info_dst_fault body.now) (info.info_dst_of body.now) }
 {
     if body.len() < info_dst::SIZE {
         return Err(WireFault::ShortBody);
@@ -35,7 +35,7 @@ pub(crate) fn info_dst(body: &[u8]) -> Result<GuidPrefix, WireFault>
 
 /// Reads the body of an INFO_SRC, which has the fields of a header.
 pub(crate) fn info_src(body: &[u8]) -> Result<Header, WireFault>
-    ensures { ReadsOrFaults (λ source. source) result (info_src_fault body.now) (info_src_of body.now) }
+    ensures { fault.ReadsOrFaults (λ source. source) result (info.info_src_fault body.now) (info.info_src_of body.now) }
 {
     if body.len() < header::SIZE {
         return Err(WireFault::ShortBody);

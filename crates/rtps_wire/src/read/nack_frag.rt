@@ -1,5 +1,5 @@
 ghost use Rattle.std.specs.Prelude.{◌≡◌};
-ghost use Rattle.rtps_wire.specs.NackFrag.{fragment_words, nack_frag_in};
+ghost use Rattle.rtps_wire.specs.NackFrag as nack_frag_spec;
 
 use super::fields::entity_at;
 use crate::layout::nack_frag;
@@ -9,7 +9,7 @@ use rtps_ids::{NumberSet, Order, SeqNum, number_at, u32_at};
 
 /// Reads the body of a NACK_FRAG, if it can be read.
 pub(crate) fn nack_frag(order: Order, body: &[u8]) -> Option<NackFrag>
-    ensures { result ≡ nack_frag_in order body.now }
+    ensures { result ≡ nack_frag_spec.nack_frag_in order body.now }
 {
     let number = SeqNum::new(number_at(order, body, nack_frag::NUMBER)?)?;
     let base = u32_at(order, body, nack_frag::BASE)?;
@@ -33,7 +33,7 @@ pub(crate) fn nack_frag(order: Order, body: &[u8]) -> Option<NackFrag>
 
 /// The words of a set of fragment numbers.
 fn words_at(order: Order, body: &[u8]) -> [u32; 8]
-    ensures { result ≡ fragment_words order body.now }
+    ensures { result ≡ nack_frag_spec.fragment_words order body.now }
 {
     let mut words = [0; 8];
     for i in 0..8 {

@@ -5,7 +5,7 @@ use Rattle.std.proofs.lemmas.Int.{ints}
 use Rattle.std.proofs.lemmas.List.{length-map}
 use Rattle.std.proofs.lemmas.List.Elements.{All-cons, All-nil}
 use Rattle.rtps_discovery.specs.declared.matching.Pair.{Pair}
-use Rattle.rtps_audit.specs.Placed.{is_from, placed_in}
+use Rattle.rtps_audit.specs.Placed as placed
 use Rattle.rtps_audit.specs.declared.account.Account.{Account}
 use Rattle.rtps_audit.specs.declared.answer.Answer.{Answer}
 use Rattle.rtps_audit.specs.declared.ask.Ask.{Ask}
@@ -33,6 +33,6 @@ returns g c = λ recording is.
     let are : asks ≡ map (ask_at 0) answers = c.deref.ensures.value ∙ c.in_ok-push.ensures ∙ ap (λ l. l ++ map (ask_at 0) answers) c.new-asks.ensures.items in
     let sorted = asks_in_order asks answers are (subst (IsNonDecreasingBy (λ (a : Answer). a.datagram)) (sym is.answers) (answers_in_order pair recording)) in
     let asks_are = asks_of_one recording pair asks answers are is.answers (subst (All (λ (a : Answer). 1 ≤ a.datagram)) (sym is.answers) (answers_counted pair recording)) in
-    let stand = c.in_ok-take_in.ensures.stand c.args.from writer (pair ∷ []) (since_first writer acts (acts_passed (is_from writer) acts (placed_in recording) is.acts)) (kept_in_order recording (is_from writer) acts is.acts) asks_are.counted sorted c.in_ok-accounts.ensures in
+    let stand = c.in_ok-take_in.ensures.stand c.args.from writer (pair ∷ []) (since_first writer acts (acts_passed (placed.is_from writer) acts (placed.placed_in recording) is.acts)) (kept_in_order recording (placed.is_from writer) acts is.acts) asks_are.counted sorted c.in_ok-accounts.ensures in
     let rows = c.in_ok-rows.ensures.rows c.args.from writer (pair ∷ []) asks recording (omega (arith, ints)) (record { of_writer = All-cons (λ (p : Pair). p.writer ≡ writer) pair [] refl (All-nil _); acts_are = is.acts; asks_are = asks_are }) stand in
     exact_row c.args.from recording pair c.in_ok-rows.rows.items c.index.result.now c.index.ensures rows.pairs_are rows.judged

@@ -3,8 +3,8 @@ use Rattle.std.specs.List.{All}
 use Rattle.std.specs.List.Sorted.{IsNonDecreasingBy}
 use Rattle.std.proofs.lemmas.Int.{ints}
 use Rattle.std.proofs.lemmas.List.{length-map}
-use Rattle.rtps_audit.specs.Account.{AreAsksOf, AreRowsOf}
-use Rattle.rtps_audit.specs.Placed.{is_from, placed_in}
+use Rattle.rtps_audit.specs.Account as account
+use Rattle.rtps_audit.specs.Placed as placed
 use Rattle.rtps_audit.specs.declared.account.Account.{Account}
 use Rattle.rtps_audit.specs.declared.ask.Ask.{Ask}
 use Rattle.rtps_audit.proofs.AccountsLemmas.{acts_passed, since_first}
@@ -25,9 +25,9 @@ returns c = λ intake is.
     let asks = c.deref.result.now in
     let same = sym c.deref.ensures.value in
     let are = c.acts_of-acts.ensures intake is in
-    let asks_are = subst (AreAsksOf intake.acts pairs) same (c.in_ok-asks.ensures.asks intake is) in
+    let asks_are = subst (account.AreAsksOf intake.acts pairs) same (c.in_ok-asks.ensures.asks intake is) in
     let sorted = subst (IsNonDecreasingBy (λ (ask : Ask). ask.answer.datagram)) same c.in_ok-asks.ensures.sorted in
-    let stand = c.in_ok-take_in.ensures.stand c.of.result writer pairs (since_first writer acts (acts_passed (is_from writer) acts (placed_in intake.acts) are)) (kept_in_order intake.acts (is_from writer) acts are) asks_are.counted sorted c.in_ok-accounts.ensures in
+    let stand = c.in_ok-take_in.ensures.stand c.of.result writer pairs (since_first writer acts (acts_passed (placed.is_from writer) acts (placed.placed_in intake.acts) are)) (kept_in_order intake.acts (placed.is_from writer) acts are) asks_are.counted sorted c.in_ok-accounts.ensures in
     let positive : 1 ≤ c.of.result = let some = c.of.type_inv in omega (arith, ints) in
     let rows = c.in_ok-rows.ensures.rows c.of.result writer pairs asks intake.acts positive (record { of_writer = c.requires; acts_are = are; asks_are = asks_are }) stand in
-    subst (λ from. AreRowsOf from intake.acts pairs c.in_ok-rows.rows.items) c.of.ensures rows
+    subst (λ from. account.AreRowsOf from intake.acts pairs c.in_ok-rows.rows.items) c.of.ensures rows

@@ -1,23 +1,23 @@
 use Rattle.std.proofs.Common.{◌≡◌, ℕ, ◌+◌, ◌-◌, ◌*◌, Fits, w8, ◌<◌, ◌≤◌, List, [], ◌∷◌, ap, drop, get_or, length, refl, ◌∙◌, arith}
 use Rattle.std.proofs.lemmas.List.{drop-drop, get_or-drop, length-drop}
-use Rattle.rtps_capture.specs.Checksum.{word_sum}
+use Rattle.rtps_capture.specs.Checksum as checksum
 use Rattle.rtps_capture.proofs.checksum.word_sum.Goals as goal
 
 -- the sum of two octets and those behind them, of one, and of none
-word_step : (octets : List ℕ) → 2 ≤ length octets → word_sum octets ≡ get_or octets 0 0 * 256 + get_or octets 1 0 + word_sum (drop 2 octets)
-unfolding word_sum
+word_step : (octets : List ℕ) → 2 ≤ length octets → checksum.word_sum octets ≡ get_or octets 0 0 * 256 + get_or octets 1 0 + checksum.word_sum (drop 2 octets)
+unfolding checksum.word_sum
 word_step [] two = absurd (omega arith)
 word_step (high ∷ []) two = absurd (omega arith)
 word_step (high ∷ low ∷ octets) two = refl
 
-word_last : (octets : List ℕ) → length octets ≡ 1 → word_sum octets ≡ get_or octets 0 0 * 256
-unfolding word_sum
+word_last : (octets : List ℕ) → length octets ≡ 1 → checksum.word_sum octets ≡ get_or octets 0 0 * 256
+unfolding checksum.word_sum
 word_last [] one = absurd (omega arith)
 word_last (high ∷ []) one = refl
 word_last (high ∷ low ∷ octets) one = absurd (omega arith)
 
-word_none : (octets : List ℕ) → length octets ≡ 0 → word_sum octets ≡ 0
-unfolding word_sum
+word_none : (octets : List ℕ) → length octets ≡ 0 → checksum.word_sum octets ≡ 0
+unfolding checksum.word_sum
 word_none [] none = refl
 word_none (high ∷ octets) none = absurd (omega arith)
 
@@ -36,7 +36,7 @@ loop-word-preserved c =
     let step = word_step (drop at octets) (omega (arith, length-drop at octets)) in
     let high = octet_at octets at in
     let low = get_or-drop at octets 1 0 in
-    let behind = ap word_sum (drop-drop 2 at octets) ∙ ap (λ (n : ℕ). word_sum (drop n octets)) next in
+    let behind = ap checksum.word_sum (drop-drop 2 at octets) ∙ ap (λ (n : ℕ). checksum.word_sum (drop n octets)) next in
     let one = small octets at (c.type_inv.octets at) in
     let two = small octets (at + 1) (c.type_inv.octets (at + 1)) in (omega (arith, one, two), omega (arith, step, high, low, behind))
 

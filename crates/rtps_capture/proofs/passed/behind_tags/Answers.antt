@@ -1,5 +1,5 @@
 use Rattle.std.proofs.Common.{◌∙◌, length, sym}
-use Rattle.rtps_capture.specs.Passed.{tag_passed}
+use Rattle.rtps_capture.specs.Passed as passed
 use Rattle.rtps_capture.proofs.PassedLemmas.{last_within-end, last_within-step, tags_lead_on}
 use Rattle.rtps_capture.proofs.passed.behind_tags.Goals as goal
 
@@ -7,10 +7,10 @@ pub loop-behind-preserved : goal.loop-behind-preserved
 loop-behind-preserved c =
     let octets = c.args.frame.now in (
       c.in-Some.ensures.onward.1,
-      sym (last_within-step (tag_passed octets) (length octets) (tags_lead_on octets) c.loop-behind.header c.in-Some.behind (sym c.in-Some.ensures.passed)) ∙ c.loop-behind.invariant.1,
+      sym (last_within-step (passed.tag_passed octets) (length octets) (tags_lead_on octets) c.loop-behind.header c.in-Some.behind (sym c.in-Some.ensures.passed)) ∙ c.loop-behind.invariant.1,
     )
 
 pub returns-clause-last : goal.returns-clause-last
 returns-clause-last c =
     let octets = c.args.frame.now in
-    sym (last_within-end (tag_passed octets) (length octets) c.loop-behind.header (sym c.tag_passed.ensures.passed ∙ c.in_default.is)) ∙ c.loop-behind.invariant.1
+    sym (last_within-end (passed.tag_passed octets) (length octets) c.loop-behind.header (sym c.tag_passed.ensures.passed ∙ c.in_default.is)) ∙ c.loop-behind.invariant.1

@@ -1,7 +1,7 @@
 use Rattle.std.proofs.Common.{ap, ◌∙◌, sym, inl, inr, arith}
 use Rattle.std.proofs.lemmas.Bool.{cases_lt}
 use Rattle.std.specs.Prelude.{is_some}
-use Rattle.rtps_coverage.specs.Stretches.{stretch_has}
+use Rattle.rtps_coverage.specs.Stretches as stretches
 use Rattle.rtps_coverage.proofs.StretchLemmas.{list_any-find, find_tells}
 use Rattle.rtps_coverage.proofs.plain_ranges.reach.Goals as goal
 
@@ -22,6 +22,6 @@ pub returns : goal.returns
 returns c = record {
   onward = c.loop-stretch.invariant.onward;
   in_range = c.loop-stretch.invariant.in_range;
-  outside = list_any-find (stretch_has c.loop-stretch.reached) c.args.stretches.now ∙ ap is_some (sym c.stretch_of.ensures ∙ c.in_default.is);
+  outside = list_any-find (stretches.stretch_has c.loop-stretch.reached) c.args.stretches.now ∙ ap is_some (sym c.stretch_of.ensures ∙ c.in_default.is);
   between = c.loop-stretch.invariant.between;
 }

@@ -1,7 +1,7 @@
 use Rattle.std.proofs.Common.{◌≤◌, ◌&&◌, ◌||◌, ◌∙◌, ap, sym, max, nat_le, nat_lt, arith}
 use Rattle.std.proofs.lemmas.Bool.{false≢true}
 use Rattle.std.proofs.Math.Nat.{min-eq_right}
-use Rattle.rtps_coverage.specs.RangeMap.{kept_has}
+use Rattle.rtps_coverage.specs.RangeMap as range_map
 use Rattle.rtps_coverage.proofs.RangeMapLemmas.{clear_has, clear_past, is_in, joins_first, some_has}
 use Rattle.rtps_coverage.proofs.range_map.join.Goals as goal
 
@@ -13,9 +13,9 @@ returns-then-last-lo-2-clause-ok c =
     let begins : last.lo ≤ c.args.lo = c.if-last-lo-2.true in
     λ n.
     c.widen.ensures.has n
-    ∙ ap (λ high. kept_has before n || (nat_le last.lo n && nat_lt n high)) c.max-hi.ensures
-    ∙ ap (λ low. kept_has before n || (nat_le low n && nat_lt n (max c.args.hi last.hi))) (sym (min-eq_right begins))
-    ∙ joins_first c.args.lo c.args.hi last.lo last.hi n (kept_has before n)
+    ∙ ap (λ high. range_map.kept_has before n || (nat_le last.lo n && nat_lt n high)) c.max-hi.ensures
+    ∙ ap (λ low. range_map.kept_has before n || (nat_le low n && nat_lt n (max c.args.hi last.hi))) (sym (min-eq_right begins))
+    ∙ joins_first c.args.lo c.args.hi last.lo last.hi n (range_map.kept_has before n)
     (λ a b. some_has n c.in-Some.key last before.entries here (is_in n last a b)) (omega arith) c.if-last-lo.false
 
 pub returns-then-last-lo-clause-touching : goal.returns-then-last-lo-clause-touching

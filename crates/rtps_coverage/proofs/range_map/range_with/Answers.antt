@@ -1,5 +1,5 @@
 use Rattle.std.proofs.Common.{ℕ, ◌≤◌, arith}
-use Rattle.rtps_coverage.specs.RangeMap.{HasRange}
+use Rattle.rtps_coverage.specs.RangeMap as range_map
 use Rattle.rtps_coverage.specs.declared.stretch.Stretch.{Stretch}
 use Rattle.rtps_coverage.proofs.RangeMapLemmas.{gap_has, last_ends, first_begins, range_here}
 use Rattle.rtps_coverage.proofs.range_map.range_with.Goals as goal
@@ -23,7 +23,7 @@ pub returns-else-stretch-n : goal.returns-else-stretch-n
 returns-else-stretch-n c =
     let kept = c.args.kept.now in
     let n = c.args.n in
-    let before : (other : ℕ) (that : Stretch) → HasRange kept other that → other ≤ n → that.hi ≤ n = λ other that e le. elim c.match-last_up_to.branch [
+    let before : (other : ℕ) (that : Stretch) → range_map.HasRange kept other that → other ≤ n → that.hi ≤ n = λ other that e le. elim c.match-last_up_to.branch [
       | in-Some+else-n-stretch w ↦ let a = last_ends kept n _ _ c.requires w.in-Some.ensures other that e le in let b = w.if-n-stretch.false in omega arith
       | in_default w ↦ let a = w.in_default.ensures other that e in absurd (omega arith)
     ] in
@@ -34,7 +34,7 @@ pub returns-in_err-stretch : goal.returns-in_err-stretch
 returns-in_err-stretch c =
     let kept = c.args.kept.now in
     let n = c.args.n in
-    let before : (other : ℕ) (that : Stretch) → HasRange kept other that → other ≤ n → that.hi ≤ n = λ other that e le. elim c.match-last_up_to.branch [
+    let before : (other : ℕ) (that : Stretch) → range_map.HasRange kept other that → other ≤ n → that.hi ≤ n = λ other that e le. elim c.match-last_up_to.branch [
       | in-Some+else-n-stretch w ↦ let a = last_ends kept n _ _ c.requires w.in-Some.ensures other that e le in let b = w.if-n-stretch.false in omega arith
       | in_default w ↦ let a = w.in_default.ensures other that e in absurd (omega arith)
     ] in

@@ -1,7 +1,7 @@
 use Rattle.std.proofs.Common.{◌∙◌, ap, sym, subst, rules}
 use Rattle.std.specs.List.Sorted.{IsNonDecreasingBy}
 use Rattle.std.proofs.lemmas.List.Sorted.{IsNonDecreasingBy-from_sort_by_key, list_any-IsPermutation}
-use Rattle.rtps_coverage.specs.Rising.{reaches, some_reaches}
+use Rattle.rtps_coverage.specs.Rising as rising
 use Rattle.rtps_coverage.specs.declared.stretch.Stretch.{Stretch}
 use Rattle.rtps_coverage.proofs.rising.rising.Goals as goal
 
@@ -13,5 +13,5 @@ rise-requires c =
 pub returns-clause-same : goal.returns-clause-same
 returns-clause-same c = λ key n.
     c.in_ok-rising.ensures.same key n
-    ∙ ap (λ l. some_reaches l key n) c.deref.ensures.value
-    ∙ sym (list_any-IsPermutation (reaches key n) c.args.stretches.now.items c.sort_by_key.new.self.items c.in_ok-sort_by_key.ensures.permutation)
+    ∙ ap (λ l. rising.some_reaches l key n) c.deref.ensures.value
+    ∙ sym (list_any-IsPermutation (rising.reaches key n) c.args.stretches.now.items c.sort_by_key.new.self.items c.in_ok-sort_by_key.ensures.permutation)

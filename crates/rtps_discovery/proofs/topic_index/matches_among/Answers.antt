@@ -2,7 +2,7 @@ use Rattle.std.proofs.Common.{◌<◌, arith, ap, filter, length, sym, ◌∙◌
 use Rattle.std.specs.Global.{Vec}
 use Rattle.std.proofs.lemmas.List.{take_all}
 use denote.Enum.Bare.{same_false, same_true}
-use Rattle.rtps_discovery.specs.Offers.{readers_within}
+use Rattle.rtps_discovery.specs.Offers as offers
 use Rattle.rtps_discovery.specs.contracts.endpoint.Side.{the_type}
 use Rattle.rtps_discovery.specs.declared.endpoint.Endpoint.{Endpoint}
 use Rattle.rtps_discovery.proofs.Listing.{listed, listed_all, listed_other}
@@ -20,7 +20,7 @@ loop-writer-preserved c =
       | then-eq+in_ok-push_matches w ↦
           let within = w.deref-then-eq.ensures.value ∙ ap (λ (list : Vec Endpoint). list.items) w.index.ensures
           ∙ sorted w.offer_of.result w.index.result.now (omega (arith, w.offer_of.ensures.within, c.in_ok-by_offer.ensures.each))
-          ∙ ap (readers_within endpoints readers) w.offer_of.ensures.value in
+          ∙ ap (offers.readers_within endpoints readers) w.offer_of.ensures.value in
           let found = w.of_one_type.ensures ∙ ap (filter _) (w.readers_of-of_topic.ensures ∙ ap (filter _) within) in
           rw w.found-is (listed_writer endpoints readers c.loop-writer.writer-index _ c.loop-writer.found.items w.push_matches.new.found.items w.of_one_type.result.now lt
           (same_true the_type tt _ _ (sym c.eq.ensures ∙ w.if-eq.true)) c.in_ok-readers.ensures.stable found c.loop-writer.invariant w.in_ok-push_matches.ensures)

@@ -1,7 +1,7 @@
 use Rattle.std.proofs.Common.{◌≡◌, ◌++◌, map, take}
-use Rattle.rtps_discovery.specs.Endpoint.{endpoint_value}
-use Rattle.rtps_discovery.specs.Matching.{matches_of}
+use Rattle.rtps_discovery.specs.Endpoint as endpoint
+use Rattle.rtps_discovery.specs.Matching as matching
 use Rattle.rtps_discovery.proofs.topic_index.push_matches.Given as goal
 
 abbrev pub invariant-loop-reader : goal.invariant-loop-reader
-invariant-loop-reader l = l.found.items ≡ l.fn.found.items ++ matches_of (endpoint_value l.writer) (map endpoint_value (take l.reader-index l.readers))
+invariant-loop-reader l = l.found.items ≡ l.fn.found.items ++ matching.matches_of (endpoint.endpoint_value l.writer) (map endpoint.endpoint_value (take l.reader-index l.readers))

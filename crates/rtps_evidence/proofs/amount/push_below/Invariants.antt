@@ -1,12 +1,12 @@
 use Rattle.std.proofs.Common.{◌≡◌, ◌&&◌, ◌||◌, ◌-◌, ◌^◌, ℕ, nat_lt}
-use Rattle.rtps_receiver.specs.Said.{numbers_have}
+use Rattle.rtps_receiver.specs.Said as said
 use Rattle.rtps_receiver.proofs.Offered.{below}
-use Rattle.rtps_coverage.specs.Stretches.{stretches_have}
+use Rattle.rtps_coverage.specs.Stretches as stretches
 use Rattle.rtps_evidence.proofs.amount.push_below.Given as goal
 
 -- the numbers below the end and below that place are there
 abbrev pub invariant-apart : goal.invariant-apart
-invariant-apart l = (n : ℕ) → stretches_have l.stretches.items n ≡ (stretches_have l.fn.stretches.items n || (nat_lt n l.fn.end && below (numbers_have l.numbers) l.at n))
+invariant-apart l = (n : ℕ) → stretches.stretches_have l.stretches.items n ≡ (stretches.stretches_have l.fn.stretches.items n || (nat_lt n l.fn.end && below (said.numbers_have l.numbers) l.at n))
 
 abbrev pub decreases-apart : goal.decreases-apart
 decreases-apart l = 2 ^ 64 - l.at

@@ -1,31 +1,31 @@
 use Rattle.std.proofs.Common.{◌∙◌, List, ap}
 use Rattle.std.specs.List.{list_any}
 use Rattle.std.specs.Option.{option_map}
-use Rattle.rtps_audit.specs.Placed.{PlacedValue, placed_in}
-use Rattle.rtps_evidence.specs.Locations.{find_last, location_of}
-use Rattle.rtps_evidence.specs.Missed.{again_behind, asks_for, brings, gone_behind}
+use Rattle.rtps_audit.specs.Placed as placed
+use Rattle.rtps_evidence.specs.Locations as locations
+use Rattle.rtps_evidence.specs.Missed as missed
 use Rattle.rtps_evidence.proofs.MissedLemmas.{again_same, asked_last, gone_same_behind, last_asking_same, never_asked, sent_same}
 use Rattle.rtps_evidence.proofs.first_missed.first_missed_at.Goals as goal
 
 pub returns-in_default : goal.returns-in_default
 returns-in_default c = λ recording is.
     let pair = c.args.exchange.now.pair in
-    let all = placed_in recording in
-    never_asked pair.writer pair.reader c.args.number all (find_last (asks_for pair.writer pair.reader c.args.number) all)
+    let all = placed.placed_in recording in
+    never_asked pair.writer pair.reader c.args.number all (locations.find_last (missed.asks_for pair.writer pair.reader c.args.number) all)
     (c.in_default.ensures
-    ∙ ap (λ (l : List PlacedValue). option_map location_of (find_last (asks_for pair.writer pair.reader c.args.number) l)) is.asks
-    ∙ ap (option_map location_of) (last_asking_same pair.writer pair.reader c.args.number all))
+    ∙ ap (λ (l : List placed.PlacedValue). option_map locations.location_of (locations.find_last (missed.asks_for pair.writer pair.reader c.args.number) l)) is.asks
+    ∙ ap (option_map locations.location_of) (last_asking_same pair.writer pair.reader c.args.number all))
 
 pub returns : goal.returns
 returns c = λ recording is.
     let pair = c.args.exchange.now.pair in
     let n = c.args.number in
     let asked = c.in-Some.asked in
-    let all = placed_in recording in
-    asked_last pair.writer pair.reader n all (find_last (asks_for pair.writer pair.reader n) all) asked c.first_again.result c.first_gone_behind.result c.is_sent.result
+    let all = placed.placed_in recording in
+    asked_last pair.writer pair.reader n all (locations.find_last (missed.asks_for pair.writer pair.reader n) all) asked c.first_again.result c.first_gone_behind.result c.is_sent.result
     (c.in-Some.ensures
-    ∙ ap (λ (l : List PlacedValue). option_map location_of (find_last (asks_for pair.writer pair.reader n) l)) is.asks
-    ∙ ap (option_map location_of) (last_asking_same pair.writer pair.reader n all))
-    (c.first_again.ensures ∙ ap (again_behind asked pair.writer pair.reader n) is.acts ∙ again_same asked pair.writer pair.reader n all)
-    (c.first_gone_behind.ensures ∙ ap (gone_behind asked pair.writer pair.reader n) is.acts ∙ gone_same_behind asked pair.writer pair.reader n all)
-    (c.is_sent.ensures ∙ ap (list_any (brings pair.writer pair.reader n)) is.acts ∙ sent_same pair.writer pair.reader n all)
+    ∙ ap (λ (l : List placed.PlacedValue). option_map locations.location_of (locations.find_last (missed.asks_for pair.writer pair.reader n) l)) is.asks
+    ∙ ap (option_map locations.location_of) (last_asking_same pair.writer pair.reader n all))
+    (c.first_again.ensures ∙ ap (missed.again_behind asked pair.writer pair.reader n) is.acts ∙ again_same asked pair.writer pair.reader n all)
+    (c.first_gone_behind.ensures ∙ ap (missed.gone_behind asked pair.writer pair.reader n) is.acts ∙ gone_same_behind asked pair.writer pair.reader n all)
+    (c.is_sent.ensures ∙ ap (list_any (missed.brings pair.writer pair.reader n)) is.acts ∙ sent_same pair.writer pair.reader n all)

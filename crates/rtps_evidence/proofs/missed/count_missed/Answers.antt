@@ -1,10 +1,10 @@
 use Rattle.std.proofs.Common.{◌≡◌, ◌∙◌, ◌+◌, ap}
-use Rattle.rtps_audit.specs.Placed.{placed_in}
-use Rattle.rtps_coverage.specs.Counts.{count_in}
-use Rattle.rtps_coverage.specs.Stretches.{stretches_have}
-use Rattle.rtps_evidence.specs.Missed.{missed_by}
-use Rattle.rtps_evidence.specs.Received.{least_in}
-use Rattle.rtps_evidence.specs.Spans.{since_of}
+use Rattle.rtps_audit.specs.Placed as placed
+use Rattle.rtps_coverage.specs.Counts as counts
+use Rattle.rtps_coverage.specs.Stretches as stretches
+use Rattle.rtps_evidence.specs.Missed as missed
+use Rattle.rtps_evidence.specs.Received as received
+use Rattle.rtps_evidence.specs.Spans as spans
 use Rattle.rtps_evidence.proofs.MissedLemmas.{left_missed}
 use Rattle.rtps_evidence.proofs.missed.count_missed.Goals as goal
 
@@ -14,6 +14,6 @@ returns c = λ recording there is has same.
     let asked = c.args.asked.now in
     let left = c.in_ok-left.left.items in
     let from : c.get-from.result ≡ asked.from = c.get-from.ensures.value in
-    left_missed there asked.from asked.last c.in_ok-count.count (since_of c.args.exchange.now.span) pair (placed_in recording) c.args.missed.now.items c.args.exchange.now.there.now left c.first_among-first.result
-    same has c.in_ok-left.ensures (c.in_ok-count.ensures.count ∙ ap (λ n. count_in (stretches_have left) n (asked.last + 1)) from)
-    (c.first_among-first.ensures recording is ∙ ap (λ l. missed_by pair.writer pair.reader (placed_in recording) (least_in (stretches_have l) asked.from (asked.last + 1))) c.deref.ensures.value)
+    left_missed there asked.from asked.last c.in_ok-count.count (spans.since_of c.args.exchange.now.span) pair (placed.placed_in recording) c.args.missed.now.items c.args.exchange.now.there.now left c.first_among-first.result
+    same has c.in_ok-left.ensures (c.in_ok-count.ensures.count ∙ ap (λ n. counts.count_in (stretches.stretches_have left) n (asked.last + 1)) from)
+    (c.first_among-first.ensures recording is ∙ ap (λ l. missed.missed_by pair.writer pair.reader (placed.placed_in recording) (received.least_in (stretches.stretches_have l) asked.from (asked.last + 1))) c.deref.ensures.value)

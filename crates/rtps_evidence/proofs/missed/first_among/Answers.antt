@@ -1,8 +1,8 @@
 use Rattle.std.proofs.Common.{◌≡◌, ◌∙◌, ◌+◌, ◌<◌, ◌≤◌, ap, arith, sym}
-use Rattle.rtps_audit.specs.Placed.{placed_in}
-use Rattle.rtps_coverage.specs.Stretches.{stretches_have}
-use Rattle.rtps_evidence.specs.Missed.{missed_by}
-use Rattle.rtps_evidence.specs.Received.{least_in}
+use Rattle.rtps_audit.specs.Placed as placed
+use Rattle.rtps_coverage.specs.Stretches as stretches
+use Rattle.rtps_evidence.specs.Missed as missed
+use Rattle.rtps_evidence.specs.Received as received
 use Rattle.rtps_evidence.proofs.NotReceivedLemmas.{least_found, least_none}
 use Rattle.rtps_evidence.proofs.missed.first_among.Goals as goal
 
@@ -13,9 +13,9 @@ returns-then-least-end c = λ recording is.
     let from : c.get-from.result ≡ asked.from = c.get-from.ensures.value in
     let found = c.least_inside-least.ensures in
     let high : c.least_inside-least.result < asked.last + 1 = (let lt = c.if-least-end.true in omega (arith, lt)) in
-    let least = least_found (stretches_have c.args.numbers.now) c.get-from.result (asked.last + 1) c.least_inside-least.result found.onward high (found.inside high) found.below in
+    let least = least_found (stretches.stretches_have c.args.numbers.now) c.get-from.result (asked.last + 1) c.least_inside-least.result found.onward high (found.inside high) found.below in
     c.first_missed_at.ensures recording is
-    ∙ ap (missed_by pair.writer pair.reader (placed_in recording)) (sym least ∙ ap (λ n. least_in (stretches_have c.args.numbers.now) n (asked.last + 1)) from)
+    ∙ ap (missed.missed_by pair.writer pair.reader (placed.placed_in recording)) (sym least ∙ ap (λ n. received.least_in (stretches.stretches_have c.args.numbers.now) n (asked.last + 1)) from)
 
 pub returns : goal.returns
 returns c = λ recording is.
@@ -24,5 +24,5 @@ returns c = λ recording is.
     let from : c.get-from.result ≡ asked.from = c.get-from.ensures.value in
     let found = c.least_inside-least.ensures in
     let high : asked.last + 1 ≤ c.least_inside-least.result = (let ge = c.if-least-end.false in omega (arith, ge)) in
-    let least = least_none (stretches_have c.args.numbers.now) c.get-from.result (asked.last + 1) (λ n low up. found.below n low (omega (arith, up, high))) in
-    ap (missed_by pair.writer pair.reader (placed_in recording)) (sym least ∙ ap (λ n. least_in (stretches_have c.args.numbers.now) n (asked.last + 1)) from)
+    let least = least_none (stretches.stretches_have c.args.numbers.now) c.get-from.result (asked.last + 1) (λ n low up. found.below n low (omega (arith, up, high))) in
+    ap (missed.missed_by pair.writer pair.reader (placed.placed_in recording)) (sym least ∙ ap (λ n. received.least_in (stretches.stretches_have c.args.numbers.now) n (asked.last + 1)) from)

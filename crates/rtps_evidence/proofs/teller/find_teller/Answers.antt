@@ -1,8 +1,8 @@
 use Rattle.std.proofs.lemmas.Grind.{common_steps}
 use Rattle.std.proofs.lemmas.Bool.Decides.{nat_tests}
 use Rattle.std.proofs.Common.{◌∙◌, sym, arith}
-use Rattle.rtps_audit.specs.Placed.{placed_value}
-use Rattle.rtps_evidence.specs.Locations.{tells}
+use Rattle.rtps_audit.specs.Placed as placed
+use Rattle.rtps_evidence.specs.Locations as locations
 use Rattle.rtps_evidence.proofs.FindLemmas.{found_item, none_past}
 use Rattle.rtps_evidence.proofs.teller.find_teller.Goals as goal
 
@@ -10,4 +10,4 @@ pub returns-then-tells : goal.returns-then-tells
 returns-then-tells c = grind (arith, nat_tests, common_steps, found_item)
 
 pub loop-placed-preserved : goal.loop-placed-preserved
-loop-placed-preserved c = none_past placed_value (tells c.args.pair.writer c.args.pair.reader c.args.number) c.args.acts.now c.loop-placed.placed-index c.placed-item.result c.loop-placed-test.true c.placed-item.is c.loop-placed.invariant (sym c.tells.ensures ∙ c.if-tells.false)
+loop-placed-preserved c = none_past placed.placed_value (locations.tells c.args.pair.writer c.args.pair.reader c.args.number) c.args.acts.now c.loop-placed.placed-index c.placed-item.result c.loop-placed-test.true c.placed-item.is c.loop-placed.invariant (sym c.tells.ensures ∙ c.if-tells.false)

@@ -1,15 +1,15 @@
 use Rattle.std.proofs.Common.{Bor, ℕ, ◌≡◌, ◌+◌, ◌-◌, ◌∙◌, List, [], ap, arith, map, refl, subst, sym, take, rules}
 use Rattle.std.proofs.lemmas.List.{length-drop, length-map, length-take-le, take-map, take_all}
-use Rattle.rtps_audit.specs.Intake.{Intake}
+use Rattle.rtps_audit.specs.Intake as intake
 use Rattle.rtps_audit.specs.declared.report.Counts.{Counts}
-use Rattle.rtps_fragments.specs.Announcements.{IsIndexedBy}
-use Rattle.rtps_fragments.specs.Merging.{sents_in}
-use Rattle.rtps_fragments.specs.SampleActs.{samples_told}
-use Rattle.rtps_fragments.specs.FragmentWalk.{piece_acts_of, sending_of}
-use Rattle.rtps_fragments.specs.ToldSamples.{overheard_behind, told_behind, told_value}
-use Rattle.rtps_fragments.specs.ReadDatagrams.{read_of}
-use Rattle.rtps_fragments.specs.RecordedSamples.{IsWithoutFragments}
-use Rattle.rtps_fragments.specs.declared.fragments.Fragments.TheVariants.{Read}
+use Rattle.rtps_fragments.specs.Announcements as announcements
+use Rattle.rtps_fragments.specs.Merging as merging
+use Rattle.rtps_fragments.specs.SampleActs as sample_acts
+use Rattle.rtps_fragments.specs.FragmentWalk as fragment_walk
+use Rattle.rtps_fragments.specs.ToldSamples as told_samples
+use Rattle.rtps_fragments.specs.ReadDatagrams as read_datagrams
+use Rattle.rtps_fragments.specs.RecordedSamples as recorded_samples
+use Rattle.rtps_fragments.specs.declared.fragments.Fragments.{Fragments}
 use Rattle.rtps_fragments.proofs.ReadDatagramLemmas.{next_number, read_more, read_stays}
 use Rattle.rtps_fragments.proofs.ActsAnd.{length-acts}
 use Rattle.rtps_fragments.proofs.IndexSteps.{announced_count, kept_at, taken, taken_more}
@@ -22,7 +22,7 @@ pub loop-place-init : goal.loop-place-init
 loop-place-init g c =
     let n = c.args.start.datagrams in
     let so_far = octets_of (take n c.args.recording.now) in
-    let none : IsWithoutFragments so_far = subst IsWithoutFragments (take-map (λ (datagram : Bor (List ℕ)). datagram.now) n c.args.recording.now) (c.requires.start.without refl) in
+    let none : recorded_samples.IsWithoutFragments so_far = subst recorded_samples.IsWithoutFragments (take-map (λ (datagram : Bor (List ℕ)). datagram.now) n c.args.recording.now) (c.requires.start.without refl) in
     record {
       indexed = search (rules, take-map, taken_plain, octets_of, each_of);
       heard = λ first was. subst (λ datagrams. g.L.Listen.has_heard first datagrams c.args.listener.now) (read_stays so_far none) was;
@@ -48,14 +48,14 @@ note_datagram-requires-clause-next g c =
     let i = c.loop-place.place in
     let lt = c.loop-place-test.true in
     let (first, was) = c.requires.heard in
-    (first, read_of Read (octets_of (take i recording)), c.loop-place.invariant.heard first was, next_number Read recording i (omega (arith, lt)))
+    (first, read_datagrams.read_of Fragments.Read (octets_of (take i recording)), c.loop-place.invariant.heard first was, next_number Fragments.Read recording i (omega (arith, lt)))
 
 pub note_datagram-requires-clause-few : goal.note_datagram-requires-clause-few
 note_datagram-requires-clause-few g c =
     let recording = c.args.recording.now in
     let i = c.loop-place.place in
-    let counted = ap (λ (counts : Counts). counts.datagrams) (c.loop-place.invariant.indexed.index.counts 0) ∙ length-acts samples_told [] (sending_of (octets_of (take i recording)))
-    ∙ length-map (octets_of (take i recording)) piece_acts_of ∙ length-map (take i recording) (λ datagram. datagram.now) ∙ length-take-le i recording (omega (arith, c.loop-place-test.true)) in
+    let counted = ap (λ (counts : Counts). counts.datagrams) (c.loop-place.invariant.indexed.index.counts 0) ∙ length-acts sample_acts.samples_told [] (fragment_walk.sending_of (octets_of (take i recording)))
+    ∙ length-map (octets_of (take i recording)) fragment_walk.piece_acts_of ∙ length-map (take i recording) (λ datagram. datagram.now) ∙ length-take-le i recording (omega (arith, c.loop-place-test.true)) in
     omega (arith, counted, c.loop-place-test.true)
 
 pub loop-place-preserved : goal.loop-place-preserved
@@ -70,20 +70,20 @@ loop-place-preserved g c =
     let none = c.requires.start.without refl in
     let told = told_count octets n samples none c.requires.samples in
     let overheard = overheard_count octets n samples none c.requires.samples in
-    let at = past octets n samples none c.requires.samples told_behind i le ∙ kept_at samples.told.items _ (i - n) c.index.result.now c.deref.result.now c.requires.samples.told (omega (arith, told, length-drop n octets, length-map recording (λ datagram. datagram.now), lt, le)) c.index.ensures c.deref.ensures.value in
-    let also = past octets n samples none c.requires.samples overheard_behind i le ∙ kept_at samples.overheard.items _ (i - n) c.index-in-loop-place.result.now c.deref-in-loop-place.result.now c.requires.samples.overheard (omega (arith, overheard, length-drop n octets, length-map recording (λ datagram. datagram.now), lt, le)) c.index-in-loop-place.ensures c.deref-in-loop-place.ensures.value in
-    let more = taken_more recording i _ lt (map told_value c.deref.result.now) (map told_value c.deref-in-loop-place.result.now) at also in
+    let at = past octets n samples none c.requires.samples told_samples.told_behind i le ∙ kept_at samples.told.items _ (i - n) c.index.result.now c.deref.result.now c.requires.samples.told (omega (arith, told, length-drop n octets, length-map recording (λ datagram. datagram.now), lt, le)) c.index.ensures c.deref.ensures.value in
+    let also = past octets n samples none c.requires.samples told_samples.overheard_behind i le ∙ kept_at samples.overheard.items _ (i - n) c.index-in-loop-place.result.now c.deref-in-loop-place.result.now c.requires.samples.overheard (omega (arith, overheard, length-drop n octets, length-map recording (λ datagram. datagram.now), lt, le)) c.index-in-loop-place.ensures c.deref-in-loop-place.ensures.value in
+    let more = taken_more recording i _ lt (map told_samples.told_value c.deref.result.now) (map told_samples.told_value c.deref-in-loop-place.result.now) at also in
     record {
-      indexed = subst (λ intake. IsIndexedBy intake c.note_datagram.new.reading.indexed) more
-          (c.in_ok-note_datagram.ensures.index (taken recording i) (sents_in (sending_of octets)) (whole_behind octets n samples none c.requires.samples)
+      indexed = subst (λ intake. announcements.IsIndexedBy intake c.note_datagram.new.reading.indexed) more
+          (c.in_ok-note_datagram.ensures.index (taken recording i) (merging.sents_in (fragment_walk.sending_of octets)) (whole_behind octets n samples none c.requires.samples)
           (ap (λ n. n + 1) (sym (announced_count recording i (omega (arith, lt))))) c.loop-place.invariant.indexed);
       heard = λ first was.
-          subst (λ datagrams. g.L.Listen.has_heard first datagrams c.note_datagram.new.listener) (sym (read_more recording i _ _ lt (ap (λ (intake : Intake). intake.announcing) more)))
-          (c.in_ok-note_datagram.ensures.heard first (read_of Read (octets_of (take i recording))) (c.loop-place.invariant.heard first was));
+          subst (λ datagrams. g.L.Listen.has_heard first datagrams c.note_datagram.new.listener) (sym (read_more recording i _ _ lt (ap (λ (intake : intake.Intake). intake.announcing) more)))
+          (c.in_ok-note_datagram.ensures.heard first (read_datagrams.read_of Fragments.Read (octets_of (take i recording))) (c.loop-place.invariant.heard first was));
     }
 
 pub returns-clause-heard : goal.returns-clause-heard
 returns-clause-heard g c = λ first was.
     let recording = c.args.recording.now in
     let all : take c.loop-place.place recording ≡ recording = take_all c.loop-place.place recording (omega (arith, c.loop-place-test.false)) in
-    subst (λ (read : List (Bor (List ℕ))). g.L.Listen.has_heard first (read_of Read (octets_of read)) c.loop-place.listener) all (c.loop-place.invariant.heard first was)
+    subst (λ (read : List (Bor (List ℕ))). g.L.Listen.has_heard first (read_datagrams.read_of Fragments.Read (octets_of read)) c.loop-place.listener) all (c.loop-place.invariant.heard first was)

@@ -3,7 +3,7 @@ use Rattle.std.proofs.Common.{arith}
 use Rattle.std.specs.Prelude.{IfOk, Result}
 use Rattle.rtps_audit.specs.declared.verdict.Verdict.{Verdict}
 use Rattle.rtps_ids.specs.declared.memory.Memory.{Memory}
-use Rattle.rtps_fragments.specs.RecordedSamples.{intake_with}
+use Rattle.rtps_fragments.specs.RecordedSamples as recorded_samples
 use Rattle.rtps_fragments.proofs.sample_index.judge_with_samples.Goals as goal
 
 weaker : (result : Result Verdict Memory) (P Q : Verdict → Type 0) → ((verdict : Verdict) → P verdict → Q verdict) → IfOk result P → IfOk result Q
@@ -11,4 +11,4 @@ weaker result P Q h h2 = grind (arith, nat_tests)
 
 pub returns : goal.returns
 returns c = λ recording is.
-    weaker c.judge_from.result _ _ (λ verdict exact. (c.recorded_verdict_is_of_runs.ensures c.args.from c.args.pair.writer c.args.pair.reader recording verdict).1 exact.verdict) (c.judge_from.ensures (intake_with recording) is)
+    weaker c.judge_from.result _ _ (λ verdict exact. (c.recorded_verdict_is_of_runs.ensures c.args.from c.args.pair.writer c.args.pair.reader recording verdict).1 exact.verdict) (c.judge_from.ensures (recorded_samples.intake_with recording) is)

@@ -1,9 +1,9 @@
 use Rattle.std.proofs.Common.{◌≡◌, take}
-use Rattle.rtps_fragments.specs.declared.fragments.Fragments.TheVariants.{Read, Skipped}
-use Rattle.rtps_audit.specs.Intake.{intake_of}
-use Rattle.rtps_fragments.specs.Announcements.{IsIndexedBy}
-use Rattle.rtps_fragments.specs.ReadDatagrams.{read_of}
-use Rattle.rtps_fragments.specs.RecordedSamples.{IsWithoutFragments}
+use Rattle.rtps_fragments.specs.declared.fragments.Fragments.{Fragments}
+use Rattle.rtps_audit.specs.Intake as intake
+use Rattle.rtps_fragments.specs.Announcements as announcements
+use Rattle.rtps_fragments.specs.ReadDatagrams as read_datagrams
+use Rattle.rtps_fragments.specs.RecordedSamples as recorded_samples
 use Rattle.rtps_fragments.proofs.SampleSteps.{octets_of}
 use Rattle.rtps_fragments.proofs.sample_index.plain_start.Given as goal
 
@@ -11,7 +11,7 @@ use Rattle.rtps_fragments.proofs.sample_index.plain_start.Given as goal
 abbrev pub invariant-loop-place : goal.invariant-loop-place
 invariant-loop-place g l =
     record {
-      indexed : IsIndexedBy (intake_of (octets_of (take l.place l.recording))) l.reading.indexed;
-      heard : g.L.Listen.has_heard l.fn.listener (read_of Skipped (octets_of (take l.place l.recording))) l.listener;
-      without : l.fragments ≡ Read → IsWithoutFragments (octets_of (take l.place l.recording));
+      indexed : announcements.IsIndexedBy (intake.intake_of (octets_of (take l.place l.recording))) l.reading.indexed;
+      heard : g.L.Listen.has_heard l.fn.listener (read_datagrams.read_of Fragments.Skipped (octets_of (take l.place l.recording))) l.listener;
+      without : l.fragments ≡ Fragments.Read → recorded_samples.IsWithoutFragments (octets_of (take l.place l.recording));
     }

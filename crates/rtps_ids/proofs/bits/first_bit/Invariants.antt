@@ -1,6 +1,6 @@
 use Rattle.std.proofs.Common.{ℕ, ◌≡◌, ◌≤◌, ◌<◌, ◌-◌}
-use Rattle.rtps_ids.specs.NumberSet.{bit_of}
-use Rattle.rtps_ids.specs.Ranges.{wanted_bit}
+use Rattle.rtps_ids.specs.NumberSet as number_set
+use Rattle.rtps_ids.specs.Ranges as ranges
 use Rattle.rtps_ids.proofs.bits.first_bit.Given as goal
 
 -- no bit that was passed is wanted
@@ -8,7 +8,7 @@ abbrev pub invariant-loop-bit : goal.invariant-loop-bit
 invariant-loop-bit l = record {
   onward : l.from ≤ l.bit;
   within : l.bit ≤ 256;
-  passed : (i : ℕ) → l.from ≤ i → i < l.bit → bit_of l.words i ≡ 1 - wanted_bit l.wanted;
+  passed : (i : ℕ) → l.from ≤ i → i < l.bit → number_set.bit_of l.words i ≡ 1 - ranges.wanted_bit l.wanted;
 }
 
 abbrev pub decreases-loop-bit : goal.decreases-loop-bit

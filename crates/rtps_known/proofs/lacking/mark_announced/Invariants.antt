@@ -1,11 +1,11 @@
 use Rattle.std.proofs.Common.{◌≡◌, ℕ, ◌<◌, ◌||◌, nat_eq}
 use Rattle.std.specs.List.{list_any}
-use Rattle.rtps_coverage.specs.Stretches.{stretches_have}
-use Rattle.rtps_known.specs.declared.layout.TheConstants.{END}
+use Rattle.rtps_coverage.specs.Stretches as stretches
+use Rattle.rtps_known.specs.declared.layout.TheConstants as layout
 use Rattle.rtps_known.proofs.lacking.mark_announced.Given as goal
 
 -- those appended, or among what is left
 abbrev pub invariant-loop-announcement : goal.invariant-loop-announcement
 invariant-loop-announcement l =
-    (n : ℕ) → n < END → (stretches_have l.marked.items n || list_any (λ announcement. nat_eq n announcement.number) l.announcement-iterator)
-    ≡ (stretches_have l.initial.marked.items n || list_any (λ announcement. nat_eq n announcement.number) l.announced.keys)
+    (n : ℕ) → n < layout.END → (stretches.stretches_have l.marked.items n || list_any (λ announcement. nat_eq n announcement.number) l.announcement-iterator)
+    ≡ (stretches.stretches_have l.initial.marked.items n || list_any (λ announcement. nat_eq n announcement.number) l.announced.keys)

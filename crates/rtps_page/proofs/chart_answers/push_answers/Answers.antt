@@ -4,7 +4,7 @@ use Rattle.rtps_audit.specs.Placed as placed
 use Rattle.rtps_audit.specs.declared.placed.Placed.{Placed}
 use Rattle.rtps_page.proofs.AnswerLemmas.{values_more}
 use Rattle.rtps_page.proofs.EntryLemmas.{answered_tokens}
-use Rattle.rtps_page.proofs.Written.{Token, answer_json, begin_array, begin_object, end_array, end_object, guid_text, json_tokens, key, on_ok_weaker, six_parts, string, three_parts}
+use Rattle.rtps_page.proofs.Written.{Token, answer_json, begin_array, begin_object, end_array, end_object, guid_text, json_tokens, key, on_ok_weaker, six_parts, string, three_parts, two_parts}
 use Rattle.rtps_page.proofs.chart_answers.push_answers.Goals as goal
 
 pub loop-placed-preserved : goal.loop-placed-preserved
@@ -30,7 +30,9 @@ returns-clause-tokens c =
     on_ok_weaker c.end_object.result
     (λ last.
     six_parts start (begin_object ∷ []) (key (codes "writer") ∷ string (guid_text pair.writer) ∷ []) (key (codes "reader") ∷ string (guid_text pair.reader) ∷ []) (key (codes "bases") ∷ []) (begin_array ∷ [])
-    (each answers ++ (end_array ∷ end_object ∷ [])) c.in_ok-begin_object.ensures.ok c.in_ok-push_guid.ensures.tokens c.in_ok-push_guid-2.ensures.tokens c.in_ok-key.ensures.ok c.in_ok-begin_array.ensures.ok
+    (each answers ++ (end_array ∷ end_object ∷ [])) c.in_ok-begin_object.ensures.ok
+    (two_parts c.begin_object.new.self.tokens (key (codes "writer") ∷ []) (string (guid_text pair.writer) ∷ []) c.in_ok-key.ensures.ok c.in_ok-push_guid.ensures.tokens)
+    (two_parts c.push_guid.new.writer.tokens (key (codes "reader") ∷ []) (string (guid_text pair.reader) ∷ []) c.in_ok-key-2.ensures.ok c.in_ok-push_guid-2.ensures.tokens) c.in_ok-key-3.ensures.ok c.in_ok-begin_array.ensures.ok
     (three_parts c.begin_array.new.self.tokens (each answers) (end_array ∷ []) (end_object ∷ [])
     (c.loop-placed.invariant.0 ∙ ap (λ l. c.begin_array.new.self.tokens ++ each l) all) c.in_ok-end_array.ensures.ok last)
     ∙ ap (λ tokens. start ++ tokens) (sym (answered_tokens pair answers)))

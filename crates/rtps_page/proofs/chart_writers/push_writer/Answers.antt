@@ -2,7 +2,7 @@ use Rattle.std.proofs.Common.{◌++◌, ◌∷◌, [], ◌∙◌, List, ap, code
 use Rattle.rtps_audit.specs.Placed as placed
 use Rattle.rtps_audit.specs.declared.placed.Placed.{Placed}
 use Rattle.rtps_page.proofs.EntryLemmas.{entries_from, writer_tokens}
-use Rattle.rtps_page.proofs.Written.{Token, begin_array, begin_object, end_array, end_object, entries_by, guid_text, json_tokens, key, on_ok_weaker, placed_in, seven_parts, string}
+use Rattle.rtps_page.proofs.Written.{Token, begin_array, begin_object, end_array, end_object, entries_by, guid_text, json_tokens, key, on_ok_weaker, placed_in, seven_parts, string, two_parts}
 use Rattle.rtps_page.proofs.chart_writers.push_writer.Goals as goal
 
 pub returns-clause-tokens : goal.returns-clause-tokens
@@ -15,7 +15,8 @@ returns-clause-tokens c = λ intake is.
     on_ok_weaker c.end_object.result
     (λ last.
     seven_parts start (begin_object ∷ []) (key (codes "guid") ∷ string (guid_text guid) ∷ []) (key (codes "acts") ∷ []) (begin_array ∷ []) (flat_map json_tokens (entries_by guid acts)) (end_array ∷ [])
-    (end_object ∷ []) c.in_ok-begin_object.ensures.ok c.in_ok-push_guid.ensures.tokens c.in_ok-key.ensures.ok c.in_ok-begin_array.ensures.ok
+    (end_object ∷ []) c.in_ok-begin_object.ensures.ok
+    (two_parts c.begin_object.new.self.tokens (key (codes "guid") ∷ []) (string (guid_text guid) ∷ []) c.in_ok-key.ensures.ok c.in_ok-push_guid.ensures.tokens) c.in_ok-key-2.ensures.ok c.in_ok-begin_array.ensures.ok
     (c.loop-placed.invariant.0 ∙ ap (λ l. c.begin_array.new.self.tokens ++ l) entries) c.in_ok-end_array.ensures.ok last
     ∙ ap (λ tokens. start ++ tokens) (sym (writer_tokens acts guid)))
     c.end_object.ensures.ok

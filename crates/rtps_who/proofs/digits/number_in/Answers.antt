@@ -1,6 +1,6 @@
 use Rattle.std.proofs.Common.{◌∙◌, ap, arith, get_or, sym}
 use Rattle.std.proofs.lemmas.Bool.{eqb-true}
-use Rattle.rtps_who.specs.Digits.{digit_more}
+use Rattle.rtps_who.specs.Digits as digits
 use Rattle.rtps_who.proofs.DigitLemmas.{all_read, decimal_more, digits_more, no_digit, no_text, not_empty, too_large}
 use Rattle.rtps_who.proofs.digits.number_in.Goals as goal
 
@@ -13,7 +13,7 @@ returns-in_err-value c = c.from_residual.ensures ∙ too_large c.args.octets.now
 pub loop-octet-preserved : goal.loop-octet-preserved
 loop-octet-preserved c = (
   digits_more c.args.octets.now c.loop-octet.octet-index (omega arith) c.loop-octet.invariant.0 (sym c.is_digit.ensures ∙ c.if-not-is_digit.false),
-  c.in_ok-value.ensures.1 ∙ ap (λ v. digit_more v (get_or c.args.octets.now c.loop-octet.octet-index 0)) c.loop-octet.invariant.1 ∙ sym (decimal_more c.args.octets.now c.loop-octet.octet-index (omega arith)),
+  c.in_ok-value.ensures.1 ∙ ap (λ v. digits.digit_more v (get_or c.args.octets.now c.loop-octet.octet-index 0)) c.loop-octet.invariant.1 ∙ sym (decimal_more c.args.octets.now c.loop-octet.octet-index (omega arith)),
   omega (arith, c.in_ok-value.ensures.0, c.in_ok-value.ensures.1),
 )
 

@@ -1,5 +1,5 @@
 use Rattle.std.proofs.Common.{◌≡◌, ap, length, rules, sym, ◌∙◌}
-use Rattle.rtps_wire.specs.Message.{extent_of, id_of}
+use Rattle.rtps_wire.specs.Message as message
 use Rattle.rtps_wire.proofs.Submessages.{other_id, taken_apart, whole_not_cut, whole_not_overrun, whole_parts}
 use Rattle.rtps_wire.proofs.message.skipped_body.Goals as goal
 use Rattle.rtps_wire.proofs.message.skipped_body.Goals.{then-rest-lt-SIZE-via-then-rest-lt-SIZE, then-rest-lt-SIZE-via-else-rest-lt-SIZE+then-rest-id}
@@ -19,8 +19,8 @@ returns-then-declared-behind c =
 pub returns : goal.returns
 returns c =
     let rest = c.args.rest.now in
-    let id : id_of rest ≡ c.args.id = c.if-rest-id.false in
-    let size = c.extent-size.ensures ∙ ap (λ id. extent_of id c.declared_by-declared.result (length c.rest_at-behind.result.now)) (sym id) in
+    let id : message.id_of rest ≡ c.args.id = c.if-rest-id.false in
+    let size = c.extent-size.ensures ∙ ap (λ id. message.extent_of id c.declared_by-declared.result (length c.rest_at-behind.result.now)) (sym id) in
     let parts =
     taken_apart rest _ _ _ _ c.if-rest-lt-SIZE.false c.rest_at-behind.ensures c.declared_by-declared.ensures c.if-declared-behind.false size c.split_at.ensures.front in
     (whole_parts c.args.id rest _ _ c.requires id parts, search rules, parts.octets)

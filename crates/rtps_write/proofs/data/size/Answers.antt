@@ -1,11 +1,11 @@
 use Rattle.std.proofs.Common.{◌≡◌, ◌<◌, ◌≤◌, ◌+◌, ℕ, Option, Result, Ok, Err, length, min, ap, ◌∙◌, sym, arith}
 use Rattle.std.specs.Prelude.{MatchOption}
 use Rattle.std.specs.Result.{OkIff, result_ok}
-use Rattle.rtps_wire.specs.Data.{qos_octets}
-use Rattle.rtps_wire.specs.Values.{data_value}
+use Rattle.rtps_wire.specs.Data as data_spec
+use Rattle.rtps_wire.specs.Values as values
 use Rattle.rtps_write.proofs.WrittenData.{data_long}
-use Rattle.rtps_write.specs.WrittenBodies.{data_octets, payload_octets}
-use Rattle.rtps_write.specs.Held.{IsHeldData, IsHeldQos}
+use Rattle.rtps_write.specs.WrittenBodies as written_bodies
+use Rattle.rtps_write.specs.Held as held
 use Rattle.rtps_write.proofs.data.size.Goals as goal
 use Rattle.rtps_write.proofs.data.size.Goals.{After-ok, in-None, in-Some}
 
@@ -23,9 +23,9 @@ sums : (fields qos payload first held : ℕ) → fields ≡ 20 → first ≡ min
     → (held < 65536 → held ≡ 20 + (qos + payload)) × (20 + (qos + payload) < 65536 → held ≡ 20 + (qos + payload))
 sums fields qos payload first held f p q = (λ small. omega arith, λ small. omega arith)
 
-what_it_holds : (c : After-ok) → IsHeldData (data_value c.args.body.now)
+what_it_holds : (c : After-ok) → held.IsHeldData (values.data_value c.args.body.now)
 what_it_holds c =
-    let qos : IsHeldQos (data_value c.args.body.now).qos = elim c.match-body.branch [
+    let qos : held.IsHeldQos (values.data_value c.args.body.now).qos = elim c.match-body.branch [
       | in-Some w ↦ rw w.in-Some.is w.octets.ensures.list
       | in-None w ↦ rw w.in-None.is tt
     ] in
@@ -36,14 +36,14 @@ returns-clause-held c = what_it_holds c
 
 pub returns-clause-size : goal.returns-clause-size
 returns-clause-size c order =
-    let body = data_value c.args.body.now in
-    let qos : c.match-body.qos ≡ length (qos_octets body.qos) = elim c.match-body.branch [
+    let body = values.data_value c.args.body.now in
+    let qos : c.match-body.qos ≡ length (data_spec.qos_octets body.qos) = elim c.match-body.branch [
       | in-Some w ↦ rw w.in-Some.is (w.qos-is ∙ ap length w.octets.ensures.octets)
       | in-None w ↦ rw w.in-None.is w.qos-is
     ] in
-    let payload : length c.payload_octets-payload.result.now ≡ length (payload_octets body.payload) = ap length c.payload_octets-payload.ensures in
+    let payload : length c.payload_octets-payload.result.now ≡ length (written_bodies.payload_octets body.payload) = ap length c.payload_octets-payload.ensures in
     let held = sums _ _ _ _ _ (omega (arith, c.entity_size.ensures.size, c.entity_size-2.ensures.size, c.number_size.ensures.size)) c.saturating_add.ensures c.saturating_add-size.ensures in
-    let size : length (data_octets order body) ≡ 20 + (c.match-body.qos + length c.payload_octets-payload.result.now) =
+    let size : length (written_bodies.data_octets order body) ≡ 20 + (c.match-body.qos + length c.payload_octets-payload.result.now) =
     rw (qos, payload) (data_long order body (what_it_holds c)) in
     let all = fits _ _ c.try_from.result c.ok.result c.try_from.ensures c.ok.ensures.value held.0 held.1 in
     rw size all

@@ -2,7 +2,7 @@ use Rattle.std.proofs.Common.{◌≡◌, ◌<◌, ◌+◌, ◌/◌, ◌++◌, �
 use Rattle.std.specs.List.{flat_map}
 use Rattle.std.proofs.lemmas.Bool.Decides.{nat_tests}
 use Rattle.std.proofs.lemmas.List.{flat_map_more, take_more}
-use Rattle.rtps_ids.specs.Octets.{octets_of}
+use Rattle.rtps_ids.specs.Octets as octets
 use Rattle.rtps_ids.specs.declared.order.Order.{Order}
 use Rattle.rtps_write.proofs.WrittenGrowth.{grown, lacks, on_err}
 use Rattle.rtps_write.proofs.WrittenSets.{words_within}
@@ -10,12 +10,12 @@ use Rattle.rtps_write.proofs.fields.put_words.Goals as goal
 
 -- one word more is written
 word_more : (order : Order) (before items after words : List ℕ) (i word : ℕ) → i < length words → word ≡ get_or words i 0
-    → items ≡ before ++ flat_map (octets_of order 4) (take i words) → after ≡ items ++ octets_of order 4 word
-    → after ≡ before ++ flat_map (octets_of order 4) (take (i + 1) words)
+    → items ≡ before ++ flat_map (octets.octets_of order 4) (take i words) → after ≡ items ++ octets.octets_of order 4 word
+    → after ≡ before ++ flat_map (octets.octets_of order 4) (take (i + 1) words)
 word_more order before items after words i word inside is so_far written =
-    written ∙ (ap (λ xs. xs ++ octets_of order 4 word) so_far
-    ∙ (flat_map_more (octets_of order 4) before (take i words) word
-    ∙ ap (λ xs. before ++ flat_map (octets_of order 4) xs) (ap (λ w. take i words ++ w ∷ []) is ∙ sym (take_more words i 0 inside))))
+    written ∙ (ap (λ xs. xs ++ octets.octets_of order 4 word) so_far
+    ∙ (flat_map_more (octets.octets_of order 4) before (take i words) word
+    ∙ ap (λ xs. before ++ flat_map (octets.octets_of order 4) xs) (ap (λ w. take i words ++ w ∷ []) is ∙ sym (take_more words i 0 inside))))
 
 pub returns-in_err-put_u32-clause-full : goal.returns-in_err-put_u32-clause-full
 returns-in_err-put_u32-clause-full c =

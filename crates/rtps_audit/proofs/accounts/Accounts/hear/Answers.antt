@@ -1,5 +1,5 @@
 use Rattle.std.proofs.Common.{◌≡◌, ◌∙◌, true, false, ap, max, sym}
-use Rattle.rtps_coverage.specs.MergedRanges.{covered_of}
+use Rattle.rtps_coverage.specs.MergedRanges as merged_ranges
 use Rattle.rtps_audit.proofs.accounts.Accounts.hear.Goals as goal
 
 pub returns-then-not-branch : goal.returns-then-not-branch
@@ -7,7 +7,7 @@ returns-then-not-branch g c = record {
   writer = c.in_ok-tell.ensures.writer;
   from = c.in_ok-tell.ensures.from;
   heard = c.in_ok-tell.ensures.heard;
-  kept = λ n positive small is. ap (λ set. covered_of set n) c.in_ok-tell.ensures.set ∙ is;
+  kept = λ n positive small is. ap (λ set. merged_ranges.covered_of set n) c.in_ok-tell.ensures.set ∙ is;
   again = λ place d n lt positive small comes.
       let yes = c.in_ok-tell.ensures.again place d n lt comes in
       let no = c.if-not-branch.true in

@@ -3,7 +3,7 @@ use Rattle.std.specs.List.{All}
 use Rattle.std.proofs.lemmas.List.{map-append, take_more}
 use Rattle.std.proofs.lemmas.List.Elements.{All-push}
 use Rattle.rtps_discovery.specs.declared.matching.Pair.{Pair}
-use Rattle.rtps_audit.specs.Account.{Stands}
+use Rattle.rtps_audit.specs.Account as account_spec
 use Rattle.rtps_audit.specs.declared.account.Account.{Account}
 use Rattle.rtps_audit.proofs.accounts.Accounts.new.Goals as goal
 
@@ -14,7 +14,7 @@ loop-pair-preserved g c =
     let old = c.loop-pair.accounts.items in
     let account = c.in_ok-new.field-0 in
     let pair_of = λ (a : Account _). a.pair in
-    let stands = Stands g.C.Coverage.covered c.args.from c.args.writer [] [] in
+    let stands = account_spec.Stands g.C.Coverage.covered c.args.from c.args.writer [] [] in
     record {
       pairs =
           ap (map pair_of) c.in_ok-push.ensures.items ∙ map-append pair_of old (account ∷ []) ∙ ap (λ l. l ++ account.pair ∷ []) c.loop-pair.invariant.pairs

@@ -2,8 +2,8 @@ use Rattle.std.proofs.Common.{◌∙◌, ◌++◌, ◌∷◌, [], ap, arith, len
 use Rattle.std.specs.List.{All}
 use Rattle.std.proofs.lemmas.List.{length-map, map-append, take_all, take_more}
 use Rattle.std.proofs.lemmas.List.Elements.{All-push}
-use Rattle.rtps_audit.specs.Account.{IsAllKnown}
-use Rattle.rtps_audit.specs.Report.{IsJudgedFrom}
+use Rattle.rtps_audit.specs.Account as account_spec
+use Rattle.rtps_audit.specs.Report as report
 use Rattle.rtps_audit.specs.declared.account.Account.{Account}
 use Rattle.rtps_audit.specs.declared.report.Row.{Row}
 use Rattle.rtps_audit.proofs.AccountsLemmas.{all_known}
@@ -24,10 +24,10 @@ loop-account-preserved g c =
           ap (map (λ (r : Row). r.pair)) c.in_ok-push.ensures.items ∙ map-append (λ (r : Row). r.pair) rows (row ∷ []) ∙ ap (λ l. l ++ account.pair ∷ []) c.loop-account.invariant.pairs
           ∙ sym (map-append pair_of (take k accounts) (account ∷ [])) ∙ ap (map pair_of) (sym next);
       judged = λ from recording positive known.
-          let is_known = λ (a : Account _). IsAllKnown from recording a.pair c.in_ok-conflicts.conflicts c.args.self.now.last a.claims in
+          let is_known = λ (a : Account _). account_spec.IsAllKnown from recording a.pair c.in_ok-conflicts.conflicts c.args.self.now.last a.claims in
           let there = subst (All is_known) (sym c.deref-account-items.ensures.value) known in
           let is = subst is_known (sym c.account-item.is) (there k account lt) in
-          subst (All (IsJudgedFrom from recording)) (sym c.in_ok-push.ensures.items) (All-push (IsJudgedFrom from recording) rows row (c.loop-account.invariant.judged from recording positive known) (c.verdict_on.ensures from recording positive is));
+          subst (All (report.IsJudgedFrom from recording)) (sym c.in_ok-push.ensures.items) (All-push (report.IsJudgedFrom from recording) rows row (c.loop-account.invariant.judged from recording positive known) (c.verdict_on.ensures from recording positive is));
     }
 
 pub returns-clause-counted : goal.returns-clause-counted

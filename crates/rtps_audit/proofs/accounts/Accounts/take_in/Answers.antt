@@ -3,8 +3,8 @@ use Rattle.std.specs.List.{All, slice_range}
 use Rattle.std.proofs.Math.Seq.{take-add}
 use Rattle.std.proofs.lemmas.List.{get_or_default, map-append, take_all, take_more}
 use Rattle.std.proofs.lemmas.List.Elements.{All-nil, All-push, All-weaker}
-use Rattle.rtps_audit.specs.Account.{AllStand, IsSince}
-use Rattle.rtps_audit.specs.Placed.{placed_value}
+use Rattle.rtps_audit.specs.Account as account
+use Rattle.rtps_audit.specs.Placed as placed
 use Rattle.rtps_audit.specs.declared.ask.Ask.{Ask}
 use Rattle.rtps_audit.proofs.AccountsLemmas.{behind_on, early_on, first_early, slice_since}
 use Rattle.rtps_audit.proofs.PlacedLemmas.{all_between}
@@ -44,12 +44,12 @@ loop-ask-preserved g c =
           let le = old.bounds k none (omega arith) lt in
           let whole : place + (end - place) ≡ end = omega (arith, found.onward) in
           let joined : take place acts ++ slice_range acts place end ≡ take end acts = sym (take-add place (end - place) acts) ∙ ap (λ n. take n acts) whole in
-          let slice = all_between (IsSince writer old.since) acts place end (slice_since writer acts place end old.since found.within of old.behind) in
-          let heard = c.in_ok-hear_all.ensures.stand from old.since writer pairs (map placed_value (take place acts)) (take k asks) slice old.asked old.stand in
-          let now = sym (map-append placed_value (take place acts) (slice_range acts place end)) ∙ ap (map placed_value) joined in
+          let slice = all_between (account.IsSince writer old.since) acts place end (slice_since writer acts place end old.since found.within of old.behind) in
+          let heard = c.in_ok-hear_all.ensures.stand from old.since writer pairs (map placed.placed_value (take place acts)) (take k asks) slice old.asked old.stand in
+          let now = sym (map-append placed.placed_value (take place acts) (slice_range acts place end)) ∙ ap (map placed.placed_value) joined in
           let before = early_on acts place end old.since ask.answer.datagram le old.before found.before in
-          let noted = c.note.ensures.stand from writer pairs (map placed_value (take end acts)) (take k asks) (counted k none lt) (first_early acts end ask.answer.datagram found.within before)
-          (subst (λ l. AllStand covered from writer pairs l (take k asks) c.hear_all.new.self) now heard) in
+          let noted = c.note.ensures.stand from writer pairs (map placed.placed_value (take end acts)) (take k asks) (counted k none lt) (first_early acts end ask.answer.datagram found.within before)
+          (subst (λ l. account.AllStand covered from writer pairs l (take k asks) c.hear_all.new.self) now heard) in
           record {
             since = ask.answer.datagram;
             bounds = λ later d low within. subst (λ (a : Ask). a.answer.datagram ≤ (get_or asks later d).answer.datagram) (get_or_default asks k d none lt) (sorted k later d (omega arith) within);
@@ -57,7 +57,7 @@ loop-ask-preserved g c =
             behind = behind_on acts end ask.answer.datagram rising found.end;
             asked = subst (All (λ (a : Ask). a.answer.datagram ≤ ask.answer.datagram)) (sym (take_more asks k none lt))
                 (All-push (λ (a : Ask). a.answer.datagram ≤ ask.answer.datagram) (take k asks) ask (All-weaker (λ (a : Ask). a.answer.datagram ≤ old.since) (λ (a : Ask). a.answer.datagram ≤ ask.answer.datagram) (λ a is. omega arith) (take k asks) old.asked) (omega arith));
-            stand = subst (λ l. AllStand covered from writer pairs (map placed_value (take end acts)) l c.note.new.self) (sym (take_more asks k none lt)) noted;
+            stand = subst (λ l. account.AllStand covered from writer pairs (map placed.placed_value (take end acts)) l c.note.new.self) (sym (take_more asks k none lt)) noted;
           };
     }
 
@@ -71,7 +71,7 @@ returns-clause-stand g c = λ from writer pairs of rising counted sorted first.
     let all = take_all c.loop-ask.ask-index c.args.asks.now (omega (arith, c.loop-ask-test.false)) in
     let whole : place + (end - place) ≡ end = omega (arith, c.loop-ask.invariant.within) in
     let joined : take place acts ++ slice_range acts place end ≡ acts = sym (take-add place (end - place) acts) ∙ ap (λ n. take n acts) whole ∙ take_all end acts (omega arith) in
-    let slice = all_between (IsSince writer old.since) acts place end (slice_since writer acts place end old.since (omega arith) of old.behind) in
-    let heard = c.in_ok-hear_all-2.ensures.stand from old.since writer pairs (map placed_value (take place acts)) (take c.loop-ask.ask-index c.args.asks.now) slice old.asked old.stand in
-    let now = sym (map-append placed_value (take place acts) (slice_range acts place end)) ∙ ap (map placed_value) joined in
-    subst (λ l. AllStand covered from writer pairs (map placed_value acts) l c.hear_all-2.new.self) all (subst (λ l. AllStand covered from writer pairs l (take c.loop-ask.ask-index c.args.asks.now) c.hear_all-2.new.self) now heard)
+    let slice = all_between (account.IsSince writer old.since) acts place end (slice_since writer acts place end old.since (omega arith) of old.behind) in
+    let heard = c.in_ok-hear_all-2.ensures.stand from old.since writer pairs (map placed.placed_value (take place acts)) (take c.loop-ask.ask-index c.args.asks.now) slice old.asked old.stand in
+    let now = sym (map-append placed.placed_value (take place acts) (slice_range acts place end)) ∙ ap (map placed.placed_value) joined in
+    subst (λ l. account.AllStand covered from writer pairs (map placed.placed_value acts) l c.hear_all-2.new.self) all (subst (λ l. account.AllStand covered from writer pairs l (take c.loop-ask.ask-index c.args.asks.now) c.hear_all-2.new.self) now heard)

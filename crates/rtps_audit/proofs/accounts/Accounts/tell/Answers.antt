@@ -1,8 +1,8 @@
 use Rattle.std.proofs.Common.{ℕ, ◌≡◌, ◌∙◌, ◌<◌, true, false, arith, get_or, inl, inr, length, set, subst, sym}
 use Rattle.std.proofs.lemmas.Bool.{cases_lt}
 use Rattle.std.proofs.lemmas.List.{get_or-set_other, get_or-set_same, get_or_read, length-set}
-use Rattle.rtps_receiver.specs.Values.{spoken_value}
-use Rattle.rtps_audit.specs.Account.{ComesAgain, Hears}
+use Rattle.rtps_receiver.specs.Values as values
+use Rattle.rtps_audit.specs.Account as account
 use Rattle.rtps_audit.specs.declared.account.Account.{Account}
 use Rattle.rtps_audit.proofs.accounts.Accounts.tell.Goals as goal
 use Rattle.rtps_audit.proofs.accounts.Accounts.tell.Goals.{then-branch, else-branch}
@@ -10,7 +10,7 @@ use Rattle.rtps_audit.proofs.accounts.Accounts.tell.Goals.{then-branch, else-bra
 pub loop-place-preserved : goal.loop-place-preserved
 loop-place-preserved g c =
     let covered = g.C.Coverage.covered in
-    let act = spoken_value c.args.act.now in
+    let act = values.spoken_value c.args.act.now in
     let old = c.args.self.now.accounts.items in
     let mid = c.loop-place.self.accounts.items in
     let place = c.loop-place.place in
@@ -27,11 +27,11 @@ loop-place-preserved g c =
       last = known.last;
       counted = length-set mid place new ∙ known.counted;
       heard = λ k d lt. elim (cases_lt k place) [
-        | inl before ↦ subst (Hears covered act (get_or old k d)) (sym (other k d (λ e. omega (arith, e)))) (known.heard k d before)
+        | inl before ↦ subst (account.Hears covered act (get_or old k d)) (sym (other k d (λ e. omega (arith, e)))) (known.heard k d before)
         | inr ge ↦
             let e : place ≡ k = omega arith in
-            let now = subst (λ a. Hears covered act a new) (same d) c.in_ok-hear.ensures.heard in
-            subst (λ m. Hears covered act (get_or old m d) (get_or (set mid place new) m d)) e (subst (Hears covered act (get_or old place d)) (sym (get_or-set_same mid place new d within)) now)
+            let now = subst (λ a. account.Hears covered act a new) (same d) c.in_ok-hear.ensures.heard in
+            subst (λ m. account.Hears covered act (get_or old m d) (get_or (set mid place new) m d)) e (subst (account.Hears covered act (get_or old place d)) (sym (get_or-set_same mid place new d within)) now)
       ];
       rest = λ k d ge. other k d (λ e. omega (arith, e)) ∙ known.rest k d (omega arith);
       again = λ k d n lt comes. elim c.if-branch.branch [
@@ -40,8 +40,8 @@ loop-place-preserved g c =
           | inl before ↦ w.again-is ∙ known.again k d n before comes
           | inr ge ↦
               let e : k ≡ place = omega arith in
-              let here = subst (λ m. ComesAgain covered act (get_or old m d) n) e comes in
-              let yes = c.in_ok-hear.ensures.again n (subst (λ a. ComesAgain covered act a n) (sym (same d)) here) in
+              let here = subst (λ m. account.ComesAgain covered act (get_or old m d) n) e comes in
+              let yes = c.in_ok-hear.ensures.again n (subst (λ a. account.ComesAgain covered act a n) (sym (same d)) here) in
               let no = w.if-branch.false in
               let clash : true ≡ false = sym yes ∙ no in
               absurd cc

@@ -1,6 +1,6 @@
 use Rattle.std.proofs.Common.{ℕ, ◌≡◌, ◌≤◌, ◌<◌, true, get_or, length}
-use Rattle.rtps_receiver.specs.Values.{spoken_value}
-use Rattle.rtps_audit.specs.Account.{ComesAgain, Hears}
+use Rattle.rtps_receiver.specs.Values as values
+use Rattle.rtps_audit.specs.Account as account
 use Rattle.rtps_audit.specs.declared.account.Account.{Account}
 use Rattle.rtps_audit.proofs.accounts.Accounts.tell.Given as goal
 
@@ -15,7 +15,7 @@ invariant-loop-place g l =
       set : l.self.again ≡ l.fn.self.again;
       last : l.self.last ≡ l.fn.self.last;
       counted : length new ≡ length old;
-      heard : (k : ℕ) (d : Account _) → k < l.place → Hears g.C.Coverage.covered (spoken_value l.act) (get_or old k d) (get_or new k d);
+      heard : (k : ℕ) (d : Account _) → k < l.place → account.Hears g.C.Coverage.covered (values.spoken_value l.act) (get_or old k d) (get_or new k d);
       rest : (k : ℕ) (d : Account _) → l.place ≤ k → get_or new k d ≡ get_or old k d;
-      again : (k : ℕ) (d : Account _) (n : ℕ) → k < l.place → ComesAgain g.C.Coverage.covered (spoken_value l.act) (get_or old k d) n → l.again ≡ true;
+      again : (k : ℕ) (d : Account _) (n : ℕ) → k < l.place → account.ComesAgain g.C.Coverage.covered (values.spoken_value l.act) (get_or old k d) n → l.again ≡ true;
     }

@@ -4,7 +4,7 @@ use Rattle.std.proofs.lemmas.List.{get_or_default}
 use Rattle.std.proofs.lemmas.List.Elements.{All-append, All-map, All-weaker}
 use Rattle.std.proofs.lemmas.List.Sorted.{All-permutation, IsNonDecreasingBy-from_sort_by_key}
 use Rattle.rtps_discovery.specs.declared.matching.Pair.{Pair}
-use Rattle.rtps_audit.specs.Placed.{answers_among, placed_in}
+use Rattle.rtps_audit.specs.Placed as placed
 use Rattle.rtps_audit.specs.declared.answer.Answer.{Answer}
 use Rattle.rtps_audit.specs.declared.ask.Ask.{Ask}
 use Rattle.rtps_audit.proofs.IndexSpeech.{answers_counted}
@@ -25,7 +25,7 @@ loop-place-preserved c =
       asks = λ intake is.
           let are = c.answers_of.ensures intake is in
           asks_more intake.acts pairs old c.push.new.asks.items place answers c.in_ok-push.ensures
-          (λ d. are ∙ ap (λ (p : Pair). answers_among p (placed_in intake.acts)) (get_or_default pairs place _ d c.loop-place-test.true))
+          (λ d. are ∙ ap (λ (p : Pair). placed.answers_among p (placed.placed_in intake.acts)) (get_or_default pairs place _ d c.loop-place-test.true))
           (subst (All (λ (answer : Answer). 1 ≤ answer.datagram)) (sym are) (answers_counted _ intake.acts)) (c.loop-place.invariant.asks intake is);
       within = subst (All within) (sym c.in_ok-push.ensures)
           (All-append within old _ (All-weaker (λ (ask : Ask). ask.place < place) within (λ ask lt. omega arith) old c.loop-place.invariant.within) (All-map within (ask_at place) answers (λ k d lt. omega arith)));

@@ -1,5 +1,5 @@
-use Rattle.rtps_audit.specs.Said.{datagrams_until}
+use Rattle.rtps_audit.specs.Said as said
 use Rattle.rtps_audit.proofs.index.Index.judge_until.Goals as goal
 
 pub returns : goal.returns
-returns c = λ intake is. c.judge_said.ensures (datagrams_until c.args.until intake.acts) (c.until.ensures intake is)
+returns c = λ intake is. c.judge_said.ensures (said.datagrams_until c.args.until intake.acts) (c.until.ensures intake is)

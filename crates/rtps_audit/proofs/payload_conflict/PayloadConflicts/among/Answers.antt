@@ -1,7 +1,7 @@
 use Rattle.std.proofs.Common.{ap, arith, get_or, subst, sym}
 use Rattle.std.proofs.lemmas.List.{get_or_default, take_all}
-use Rattle.rtps_wire.specs.Values.{payload_value}
-use Rattle.rtps_audit.specs.PayloadConflict.{AreConflictsAmong, IsInRange}
+use Rattle.rtps_wire.specs.Values as values
+use Rattle.rtps_audit.specs.PayloadConflict as payload_conflict
 use Rattle.rtps_audit.specs.declared.payload_conflict.AddressedPayload.{AddressedPayload}
 use Rattle.rtps_audit.proofs.PayloadRuns.{ArePassed, first_of_run, kept_all, no_entry, none_passed, passed_differs, passed_same, run_at}
 use Rattle.rtps_audit.proofs.payload_conflict.PayloadConflicts.among.Goals as goal
@@ -32,12 +32,12 @@ pub invariant_of-result : goal.invariant_of-result
 invariant_of-result c =
     record {
       sorted = c.runs.invariant.sorted;
-      in_range = kept_all IsInRange c.args.entries.now c.runs.payloads.items c.requires.in_range
-          (subst (λ l. AreConflictsAmong l c.runs.payloads.items) (take_all c.runs.start c.args.entries.now (omega (arith, c.runs-test.false))) c.runs.invariant.conflicts);
+      in_range = kept_all payload_conflict.IsInRange c.args.entries.now c.runs.payloads.items c.requires.in_range
+          (subst (λ l. payload_conflict.AreConflictsAmong l c.runs.payloads.items) (take_all c.runs.start c.args.entries.now (omega (arith, c.runs-test.false))) c.runs.invariant.conflicts);
     }
 
 pub returns : goal.returns
-returns c = subst (λ l. AreConflictsAmong l c.runs.payloads.items) (take_all c.runs.start c.args.entries.now (omega (arith, c.runs-test.false))) c.runs.invariant.conflicts
+returns c = subst (λ l. payload_conflict.AreConflictsAmong l c.runs.payloads.items) (take_all c.runs.start c.args.entries.now (omega (arith, c.runs-test.false))) c.runs.invariant.conflicts
 
 pub has_other-requires : goal.has_other-requires
 has_other-requires c =
@@ -45,6 +45,6 @@ has_other-requires c =
     let start = c.runs.start in
     let first = get_or xs start no_entry in
     record {
-      first = λ k d lt. ap (λ (e : AddressedPayload). payload_value e.payload.now)
+      first = λ k d lt. ap (λ (e : AddressedPayload). values.payload_value e.payload.now)
           (first_of_run xs start c.run_end-end.result k first d (get_or_default xs start no_entry first c.runs-test.true) c.runs-test.true c.run_end-end.ensures.onward lt);
     }

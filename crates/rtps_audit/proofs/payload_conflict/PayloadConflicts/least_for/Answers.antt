@@ -1,6 +1,6 @@
 use Rattle.std.proofs.Common.{◌≡◌, ◌<◌, ◌≤◌, ◌+◌, ◌++◌, ◌∷◌, [], Some, ◌∙◌, ap, arith, length, rules, subst, sym, take}
 use Rattle.std.proofs.lemmas.List.{take_all, take_more}
-use Rattle.rtps_audit.specs.PayloadConflict.{number_in}
+use Rattle.rtps_audit.specs.PayloadConflict as payload_conflict
 use Rattle.rtps_audit.proofs.PayloadHearing.{IsHeardSoFar, heard_least, heard_more, heard_skip, two_heard, two_kept}
 use Rattle.rtps_audit.proofs.PayloadRuns.{none_greater}
 use Rattle.rtps_audit.proofs.payload_conflict.PayloadConflicts.least_for.Goals as goal
@@ -24,7 +24,7 @@ loop-place-preserved c =
       | then-has+else-is_another w ↦ subst (λ b. IsHeardSoFar (take (place + 1) xs) c.args.reader b) (sym w.before-is)
           (subst (λ l. IsHeardSoFar l c.args.reader (Some here)) more
           (heard_more (take place xs) c.args.reader c.loop-place.before here (sym c.has.ensures ∙ w.if-has.true)
-          (λ e among. subst (λ x. number_in e ≤ number_in x) (sym c.index-here.ensures) (none_greater xs place here e c.args.self.now.sorted within among)) (λ other. let no = w.is_another.ensures.1 other in search rules) c.loop-place.invariant))
+          (λ e among. subst (λ x. payload_conflict.number_in e ≤ payload_conflict.number_in x) (sym c.index-here.ensures) (none_greater xs place here e c.args.self.now.sorted within among)) (λ other. let no = w.is_another.ensures.1 other in search rules) c.loop-place.invariant))
       | else-has w ↦ subst (λ b. IsHeardSoFar (take (place + 1) xs) c.args.reader b) (sym w.before-is)
           (subst (λ l. IsHeardSoFar l c.args.reader c.loop-place.before) more (heard_skip (take place xs) c.args.reader c.loop-place.before here (sym c.has.ensures ∙ w.if-has.false) c.loop-place.invariant))
     ]

@@ -1,7 +1,7 @@
 use Rattle.std.proofs.Common.{◌≤◌, ◌<◌, inl, inr, arith}
 use Rattle.std.proofs.lemmas.Bool.{cases_lt}
 use Rattle.std.proofs.lemmas.Result.{on_ok_weaker}
-use Rattle.rtps_evidence.specs.GoneRanges.{IsIn}
+use Rattle.rtps_evidence.specs.GoneRanges as gone_ranges
 use Rattle.rtps_evidence.proofs.GoneLemmas.{taken_in}
 use Rattle.rtps_evidence.proofs.gone_ranges.GoneRanges.add.Goals as goal
 
@@ -17,7 +17,7 @@ returns-in-Some c = λ n.
       | inl lt ↦ lt
       | inr ge ↦ let early = taken.before end c.in-Some.first found.here ge in let past = found.past in absurd (omega arith)
     ] in
-    let within : (begin ≤ n) × (n < c.args.hi) → IsIn new n = λ is.
+    let within : (begin ≤ n) × (n < c.args.hi) → gone_ranges.IsIn new n = λ is.
     record { end = end; begin = c.in-Some.first; here = found.here; from = let low = c.if-first-begin.true in let from = is.0 in omega arith; to = let to = is.1 in omega arith } in
     (λ is. same.0 (inl is), λ is. elim (same.1 is) [ inl left ↦ left | inr range ↦ within range ])
 

@@ -1,8 +1,8 @@
 use Rattle.std.proofs.Common.{◌∙◌, List, ap, map, sym}
-use Rattle.rtps_audit.specs.Placed.{PlacedValue, placed_in, placed_value}
-use Rattle.rtps_coverage.specs.Stretches.{stretches_have}
-use Rattle.rtps_evidence.specs.KindRuns.{is_in_runs}
-use Rattle.rtps_evidence.specs.Kinds.{first_brought}
+use Rattle.rtps_audit.specs.Placed as placed
+use Rattle.rtps_coverage.specs.Stretches as stretches
+use Rattle.rtps_evidence.specs.KindRuns as kind_runs
+use Rattle.rtps_evidence.specs.Kinds as kinds
 use Rattle.rtps_evidence.proofs.SendingLemmas.{brought_first, sendings_kept, sendings_of}
 use Rattle.rtps_evidence.proofs.kinds.KindRuns.sendings.Goals as goal
 
@@ -10,9 +10,9 @@ pub returns : goal.returns
 returns c = λ recording is.
     let exchange = c.args.exchange.now in
     let pair = exchange.pair in
-    let all = placed_in recording in
-    let acts = map placed_value exchange.said.acts.now in
-    sendings_kept (is_in_runs c.args.self.now) (first_brought pair acts) (first_brought pair all) c.in_ok-sendings.sendings
-    (λ n has. sym (ap (λ (l : List PlacedValue). first_brought pair l n) is.acts ∙ brought_first pair n all))
-    (sendings_of (stretches_have c.deref.result.now) (is_in_runs c.args.self.now) (first_brought pair acts) c.in_ok-sendings.sendings
-    (λ n. ap (λ l. stretches_have l n) c.deref.ensures.value ∙ c.in_ok-numbers.ensures.all n) c.in_ok-sendings.ensures)
+    let all = placed.placed_in recording in
+    let acts = map placed.placed_value exchange.said.acts.now in
+    sendings_kept (kind_runs.is_in_runs c.args.self.now) (kinds.first_brought pair acts) (kinds.first_brought pair all) c.in_ok-sendings.sendings
+    (λ n has. sym (ap (λ (l : List placed.PlacedValue). kinds.first_brought pair l n) is.acts ∙ brought_first pair n all))
+    (sendings_of (stretches.stretches_have c.deref.result.now) (kind_runs.is_in_runs c.args.self.now) (kinds.first_brought pair acts) c.in_ok-sendings.sendings
+    (λ n. ap (λ l. stretches.stretches_have l n) c.deref.ensures.value ∙ c.in_ok-numbers.ensures.all n) c.in_ok-sendings.ensures)

@@ -3,7 +3,7 @@ use Rattle.std.proofs.lemmas.Bool.Decides.{nat_tests}
 use Rattle.std.proofs.Common.{◌∙◌, ap, arith, sym, take, None}
 use Rattle.std.specs.Prelude.{slice_get}
 use Rattle.std.specs.List.{find, last_or}
-use Rattle.rtps_evidence.specs.CountedAnswers.{lacks_among, lacks_counted, stands_behind}
+use Rattle.rtps_evidence.specs.CountedAnswers as counted_answers
 use Rattle.rtps_evidence.proofs.LackLemmas.{before_is_taken, passed_counted_none, passed_counted_on}
 use Rattle.rtps_evidence.proofs.lost_answers.LostAnswers.lacks_around.Goals as goal
 use Rattle.rtps_evidence.proofs.lost_answers.LostAnswers.lacks_around.Goals.{then-precedes, else-precedes}
@@ -18,6 +18,6 @@ returns-clause-lacks c =
     let next = c.pass_counted-self-inside.result in
     let found = c.pass_counted-self-inside.ensures.next in
     c.lacks_before.ensures
-    ∙ ap (λ l. lacks_counted (last_or None (take next l)) (slice_get l next)) (c.deref-2.ensures.value ∙ sym c.deref.ensures.value)
-    ∙ sym (ap (λ l. lacks_counted (last_or None l) (find (stands_behind place) counted)) (before_is_taken (stands_behind place) counted next c.pass_counted-self-inside.ensures.passed.none found) ∙ ap (lacks_counted (last_or None (take next counted))) found)
-    ∙ ap (λ l. lacks_among l place) (c.deref.ensures.value ∙ c.self.view_is)
+    ∙ ap (λ l. counted_answers.lacks_counted (last_or None (take next l)) (slice_get l next)) (c.deref-2.ensures.value ∙ sym c.deref.ensures.value)
+    ∙ sym (ap (λ l. counted_answers.lacks_counted (last_or None l) (find (counted_answers.stands_behind place) counted)) (before_is_taken (counted_answers.stands_behind place) counted next c.pass_counted-self-inside.ensures.passed.none found) ∙ ap (counted_answers.lacks_counted (last_or None (take next counted))) found)
+    ∙ ap (λ l. counted_answers.lacks_among l place) (c.deref.ensures.value ∙ c.self.view_is)

@@ -1,5 +1,5 @@
 use Rattle.std.proofs.Common.{◌≤◌, ◌∙◌, ◌&&◌, ◌||◌, ap, arith, nat_le, nat_lt}
-use Rattle.rtps_coverage.specs.Stretches.{stretches_have}
+use Rattle.rtps_coverage.specs.Stretches as stretches
 use Rattle.rtps_evidence.proofs.QuestionedLemmas.{hushed_more}
 use Rattle.rtps_evidence.proofs.questioned.Questioned.push_silent.Goals as goal
 
@@ -21,5 +21,5 @@ pieces-preserved c =
       within = omega (arith, end);
       hushed = hushed_more c.args.self.now c.args.moment.now c.args.numbers.start at c.min-hi.result c.in-Some.asked_end c.in-Some.asked _ _ _ lo up within
           (λ n from to. c.alike-is_gone.ensures.left c.if-is_gone.false n from (omega arith)) c.in-Some.ensures
-          (λ n. c.in_ok-push_if.ensures n ∙ ap (λ b. stretches_have c.pieces.silent.items n || (b && (nat_le at n && nat_lt n c.min-hi.result))) c.is_long-is_long.ensures) c.pieces.invariant.hushed;
+          (λ n. c.in_ok-push_if.ensures n ∙ ap (λ b. stretches.stretches_have c.pieces.silent.items n || (b && (nat_le at n && nat_lt n c.min-hi.result))) c.is_long-is_long.ensures) c.pieces.invariant.hushed;
     }

@@ -4,8 +4,8 @@ use Rattle.std.proofs.Common.{◌∙◌, ◌<◌, List, Some, ap, arith, length,
 use Rattle.std.specs.Option.{option_map}
 use Rattle.std.proofs.lemmas.Option.{slice_get-get_or}
 use Rattle.rtps_audit.specs.declared.answer.Answer.{Answer}
-use Rattle.rtps_evidence.specs.Questions.{place_of}
-use Rattle.rtps_evidence.specs.Waits.{answered_at}
+use Rattle.rtps_evidence.specs.Questions as questions
+use Rattle.rtps_evidence.specs.Waits as waits
 use Rattle.rtps_evidence.proofs.WaitLemmas.{passed_none, passed_on}
 use Rattle.rtps_evidence.proofs.waits.AnswerWalk.first_behind.Goals as goal
 use Rattle.rtps_evidence.proofs.waits.AnswerWalk.first_behind.Goals.{then-precedes, else-precedes}
@@ -20,4 +20,4 @@ returns-clause-place c =
     let next = c.pass_answers-self-inside.result in
     let lt : next < length answers = (let within = c.pass_answers-self-inside.ensures.passed.within in let apart = c.if-self.false in omega arith) in
     ap Some c.place_of.ensures
-    ∙ sym (ap (λ (l : List Answer). answered_at c.args.place l) (sym c.self.view_is) ∙ ap (option_map place_of) (c.pass_answers-self-inside.ensures.next ∙ slice_get-get_or answers next none lt))
+    ∙ sym (ap (λ (l : List Answer). waits.answered_at c.args.place l) (sym c.self.view_is) ∙ ap (option_map questions.place_of) (c.pass_answers-self-inside.ensures.next ∙ slice_get-get_or answers next none lt))

@@ -5,16 +5,16 @@ use Rattle.std.specs.List.{concat}
 use Rattle.std.proofs.lemmas.List.{take_all}
 use Rattle.std.proofs.lemmas.Option.{slice_get_read}
 use Rattle.std.specs.Borrow.{Bor}
-use Rattle.rtps_fragments.specs.Heard.{kept_first, with_part}
+use Rattle.rtps_fragments.specs.Heard as heard
 use Rattle.rtps_fragments.specs.declared.heard.Heard.{Heard}
-use Rattle.rtps_fragments.specs.FragmentDelivery.{last_fragment}
+use Rattle.rtps_wire.specs.DataFrag as data_frag
 use Rattle.rtps_fragments.proofs.KeptLemmas.{front_first, joined_first, joined_with, length-with_part}
 use Rattle.rtps_fragments.proofs.SampleLemmas.{firsts_get}
 use Rattle.rtps_fragments.proofs.heard.Heard.joined.Goals as goal
 use Rattle.rtps_fragments.proofs.heard.Heard.joined.Goals.{then-place-index+in_ok-extend_from_slice, else-place-index+in_ok-extend_from_slice-2}
 
-front : (kept : Heard) (i : ℕ) (octets : Bor (List ℕ)) → slice_get kept.front.items i ≡ Some octets → kept_first kept (i + 1) ≡ Some octets.now
-front kept i octets e = let more : i + 1 ≡ suc i = omega arith in ap (kept_first kept) more ∙ front_first kept i octets e
+front : (kept : Heard) (i : ℕ) (octets : Bor (List ℕ)) → slice_get kept.front.items i ≡ Some octets → heard.kept_first kept (i + 1) ≡ Some octets.now
+front kept i octets e = let more : i + 1 ≡ suc i = omega arith in ap (heard.kept_first kept) more ∙ front_first kept i octets e
 
 pub loop-place-preserved : goal.loop-place-preserved
 loop-place-preserved c = λ came parts is all.
@@ -22,7 +22,7 @@ loop-place-preserved c = λ came parts is all.
     let index = c.args.index in
     let octets = c.args.octets.now in
     let so_far = c.loop-place.sample.items in
-    let last = last_fragment c.args.shape in
+    let last = data_frag.last_fragment c.args.shape in
     let lt : place < last = subst (λ n. place < n) c.last_fragment-place-end.ensures c.loop-place-test.true in
     let so = c.loop-place.invariant came parts is all in
     elim c.if-place-index.branch [
@@ -35,6 +35,6 @@ loop-place-preserved c = λ came parts is all.
 
 pub returns : goal.returns
 returns c = λ came parts is all.
-    let gets = firsts_get came (last_fragment c.args.shape) parts all in
-    let whole : length (with_part parts c.args.index c.args.octets.now) ≡ last_fragment c.args.shape = length-with_part parts c.args.index c.args.octets.now ∙ gets.0 in
-    c.loop-place.invariant came parts is all ∙ ap concat (take_all c.loop-place.place (with_part parts c.args.index c.args.octets.now) (omega (arith, whole, c.last_fragment-place-end.ensures, c.loop-place-test.false)))
+    let gets = firsts_get came (data_frag.last_fragment c.args.shape) parts all in
+    let whole : length (heard.with_part parts c.args.index c.args.octets.now) ≡ data_frag.last_fragment c.args.shape = length-with_part parts c.args.index c.args.octets.now ∙ gets.0 in
+    c.loop-place.invariant came parts is all ∙ ap concat (take_all c.loop-place.place (heard.with_part parts c.args.index c.args.octets.now) (omega (arith, whole, c.last_fragment-place-end.ensures, c.loop-place-test.false)))

@@ -3,8 +3,8 @@ use Rattle.std.proofs.Common.{ℕ, ◌∙◌, ap, arith, sym}
 use Rattle.std.specs.Prelude.{IfOk, Some, Result, slice_get}
 use Rattle.std.specs.Global.{Vec}
 use Rattle.rtps_ids.specs.declared.memory.Memory.{Memory}
-use Rattle.rtps_fragments.specs.FragmentDelivery.{last_fragment}
-use Rattle.rtps_fragments.specs.Samples.{samples_of}
+use Rattle.rtps_wire.specs.DataFrag as data_frag
+use Rattle.rtps_fragments.specs.Samples as samples
 use Rattle.rtps_fragments.proofs.KeptLemmas.{parts_there, sample_at_first, sample_at_second}
 use Rattle.rtps_fragments.proofs.heard.Heard.sample.Goals as goal
 
@@ -13,10 +13,10 @@ weaker result P Q h h2 = grind (arith, nat_tests)
 
 pub returns-then-place-eq0 : goal.returns-then-place-eq0
 returns-then-place-eq0 c = weaker c.joined.result _ _ (λ v made came is within.
-    let (parts, all) = parts_there (last_fragment c.args.shape) came (omega arith) in
-    ap (slice_get (samples_of (last_fragment c.args.shape) came)) c.if-place-eq0.true ∙ sample_at_first (last_fragment c.args.shape) came parts all ∙ ap Some (sym (made came parts is all))) c.joined.ensures
+    let (parts, all) = parts_there (data_frag.last_fragment c.args.shape) came (omega arith) in
+    ap (slice_get (samples.samples_of (data_frag.last_fragment c.args.shape) came)) c.if-place-eq0.true ∙ sample_at_first (data_frag.last_fragment c.args.shape) came parts all ∙ ap Some (sym (made came parts is all))) c.joined.ensures
 
 pub returns-else-place-eq0 : goal.returns-else-place-eq0
 returns-else-place-eq0 c = weaker c.joined-else-place-eq0.result _ _ (λ v made came is within.
-    let (parts, all) = parts_there (last_fragment c.args.shape) came (omega arith) in
-    sample_at_second (last_fragment c.args.shape) came c.args.self.now parts c.args.place is all (omega (arith, c.if-place-eq0.false)) within ∙ ap Some (sym (made came parts is all))) c.joined-else-place-eq0.ensures
+    let (parts, all) = parts_there (data_frag.last_fragment c.args.shape) came (omega arith) in
+    sample_at_second (data_frag.last_fragment c.args.shape) came c.args.self.now parts c.args.place is all (omega (arith, c.if-place-eq0.false)) within ∙ ap Some (sym (made came parts is all))) c.joined-else-place-eq0.ensures

@@ -2,8 +2,8 @@ use Rattle.std.proofs.lemmas.Grind.{common_steps}
 use Rattle.std.proofs.lemmas.Bool.Decides.{nat_tests}
 use Rattle.std.proofs.Common.{◌≡◌, ◌++◌, ◌∙◌, ◌+◌, ◌-◌, ap, arith, drop, length, min, sym, suc, take}
 use Rattle.std.proofs.lemmas.List.{drop_min, take_min, take_all}
-use Rattle.rtps_fragments.specs.Heard.{came_from}
-use Rattle.rtps_wire.specs.DataFrag.{parts_in}
+use Rattle.rtps_fragments.specs.Heard as heard
+use Rattle.rtps_wire.specs.DataFrag as data_frag
 use Rattle.rtps_fragments.proofs.KeptLemmas.{length-parts_in, parts_behind, piece_step}
 use Rattle.rtps_fragments.proofs.heard.Heard.take_all.Goals as goal
 
@@ -13,7 +13,7 @@ loop-place-preserved c =
     let count = c.args.fragments.now.count in
     let place = c.loop-place.place in
     let rest = c.loop-place.rest.now in
-    let parts = parts_in fragment count c.args.fragments.now.octets.now in
+    let parts = data_frag.parts_in fragment count c.args.fragments.now.octets.now in
     let lt = c.loop-place-test.true in
     let size : c.min.result ≡ min fragment (length rest) = omega (arith, c.min.ensures, c.from-size.ensures) in
     let octets : c.split_at.result.0.now ≡ take fragment rest = c.split_at.ensures.front ∙ ap (λ n. take n rest) size ∙ take_min fragment rest in
@@ -21,8 +21,8 @@ loop-place-preserved c =
     let more : suc place ≡ place + 1 = omega arith in (
       λ came is.
           piece_step c.last_fragment-last.result c.args.fragments.now.first count fragment place _ parts rest c.split_at.result.0.now came c.take.new.self c.loop-place.invariant.1 lt (omega (arith, c.from.ensures, c.from-in-loop-place.ensures)) octets
-          (c.in_ok-take.ensures (came ++ came_from c.args.fragments.now.first (take place parts)) (c.loop-place.invariant.0 came is)),
-      ap (λ n. drop n parts) (sym more) ∙ parts_behind fragment count place parts rest c.loop-place.invariant.1 lt ∙ ap (λ n. parts_in fragment (count - n) (drop fragment rest)) more ∙ ap (parts_in fragment (count - (place + 1))) (sym behind),
+          (c.in_ok-take.ensures (came ++ heard.came_from c.args.fragments.now.first (take place parts)) (c.loop-place.invariant.0 came is)),
+      ap (λ n. drop n parts) (sym more) ∙ parts_behind fragment count place parts rest c.loop-place.invariant.1 lt ∙ ap (λ n. data_frag.parts_in fragment (count - n) (drop fragment rest)) more ∙ ap (data_frag.parts_in fragment (count - (place + 1))) (sym behind),
     )
 
 pub returns : goal.returns

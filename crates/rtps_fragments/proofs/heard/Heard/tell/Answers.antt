@@ -1,11 +1,11 @@
 use Rattle.std.proofs.Common.{◌≡◌, ◌<◌, ℕ, List, [], ◌∷◌, ◌++◌, ◌∙◌, ap, arith, length, map, subst, sym}
 use Rattle.std.specs.Prelude.{Some, slice_get}
 use Rattle.std.proofs.lemmas.List.{map-append}
-use Rattle.rtps_fragments.specs.Heard.{IsHeard, came_from}
-use Rattle.rtps_fragments.specs.FragmentDelivery.{Shape, last_fragment}
-use Rattle.rtps_wire.specs.DataFrag.{parts_in}
-use Rattle.rtps_fragments.specs.Samples.{samples_of}
-use Rattle.rtps_fragments.specs.ToldSamples.{sent_value, shape_of, told_value}
+use Rattle.rtps_fragments.specs.Heard as heard
+use Rattle.rtps_wire.specs.declared.data_frag.Shape.{Shape}
+use Rattle.rtps_wire.specs.DataFrag as data_frag
+use Rattle.rtps_fragments.specs.Samples as samples_spec
+use Rattle.rtps_fragments.specs.ToldSamples as told_samples
 use Rattle.rtps_fragments.specs.declared.told_sample.ToldSample.{ToldSample}
 use Rattle.rtps_fragments.proofs.ToldSoFar.{told_step}
 use Rattle.rtps_fragments.proofs.heard.Heard.tell.Goals as goal
@@ -14,18 +14,18 @@ pub loop-place-preserved : goal.loop-place-preserved
 loop-place-preserved c = λ came is.
     let sent = c.args.sent.now in
     let last = c.last_fragment-last.result in
-    let more = (sent_value sent).came in
+    let more = (told_samples.sent_value sent).came in
     let one : ToldSample = record { act = sent.act; audience = c.args.audience; is_key = sent.key.is_key; octets = c.in_ok-octets.octets } in
-    let same = c.last_fragment-last.ensures ∙ ap last_fragment c.shape-shape.ensures in
-    let Kept : Shape → Type 0 = λ s. (came : List (ℕ × List ℕ)) → IsHeard (last_fragment s) came c.args.self.now
-    → IsHeard (last_fragment s) (came ++ came_from sent.fragments.first (parts_in s.fragment sent.fragments.count sent.fragments.octets.now)) c.take_all.new.self in
-    let kept : Kept (shape_of sent.key) = subst Kept c.shape-shape.ensures c.in_ok-take_all.ensures in
-    let taken : IsHeard last (came ++ more) c.take_all.new.self = subst (λ n. IsHeard n (came ++ more) c.take_all.new.self) (sym same) (kept came (subst (λ n. IsHeard n came c.args.self.now) same is)) in
-    let samples = samples_of last (came ++ more) in
+    let same = c.last_fragment-last.ensures ∙ ap data_frag.last_fragment c.shape-shape.ensures in
+    let Kept : Shape → Type 0 = λ s. (came : List (ℕ × List ℕ)) → heard.IsHeard (data_frag.last_fragment s) came c.args.self.now
+    → heard.IsHeard (data_frag.last_fragment s) (came ++ heard.came_from sent.fragments.first (data_frag.parts_in s.fragment sent.fragments.count sent.fragments.octets.now)) c.take_all.new.self in
+    let kept : Kept (told_samples.shape_of sent.key) = subst Kept c.shape-shape.ensures c.in_ok-take_all.ensures in
+    let taken : heard.IsHeard last (came ++ more) c.take_all.new.self = subst (λ n. heard.IsHeard n (came ++ more) c.take_all.new.self) (sym same) (kept came (subst (λ n. heard.IsHeard n came c.args.self.now) same is)) in
+    let samples = samples_spec.samples_of last (came ++ more) in
     let within : c.loop-place.place < length samples = omega (arith, c.count-after.ensures.samples (came ++ more) taken, c.loop-place-test.true) in
-    let pushed = ap (map told_value) c.in_ok-push.ensures.items ∙ map-append told_value c.loop-place.told.items (one ∷ []) in
-    let here : IsHeard (last_fragment c.shape-shape.result) (came ++ more) c.take_all.new.self = subst (λ n. IsHeard n (came ++ more) c.take_all.new.self) c.last_fragment-last.ensures taken in
-    let within_here : c.loop-place.place < length (samples_of (last_fragment c.shape-shape.result) (came ++ more)) = subst (λ n. c.loop-place.place < length (samples_of n (came ++ more))) c.last_fragment-last.ensures within in
-    let told : slice_get samples c.loop-place.place ≡ Some c.in_ok-octets.octets.items = ap (λ n. slice_get (samples_of n (came ++ more)) c.loop-place.place) c.last_fragment-last.ensures ∙ c.in_ok-octets.ensures (came ++ more) here within_here in
-    told_step sent.act c.args.audience (shape_of sent.key) (map told_value c.loop-place.told.items) (map told_value c.push.new.self.items) samples c.loop-place.place c.in_ok-octets.octets.items pushed told
+    let pushed = ap (map told_samples.told_value) c.in_ok-push.ensures.items ∙ map-append told_samples.told_value c.loop-place.told.items (one ∷ []) in
+    let here : heard.IsHeard (data_frag.last_fragment c.shape-shape.result) (came ++ more) c.take_all.new.self = subst (λ n. heard.IsHeard n (came ++ more) c.take_all.new.self) c.last_fragment-last.ensures taken in
+    let within_here : c.loop-place.place < length (samples_spec.samples_of (data_frag.last_fragment c.shape-shape.result) (came ++ more)) = subst (λ n. c.loop-place.place < length (samples_spec.samples_of n (came ++ more))) c.last_fragment-last.ensures within in
+    let told : slice_get samples c.loop-place.place ≡ Some c.in_ok-octets.octets.items = ap (λ n. slice_get (samples_spec.samples_of n (came ++ more)) c.loop-place.place) c.last_fragment-last.ensures ∙ c.in_ok-octets.ensures (came ++ more) here within_here in
+    told_step sent.act c.args.audience (told_samples.shape_of sent.key) (map told_samples.told_value c.loop-place.told.items) (map told_samples.told_value c.push.new.self.items) samples c.loop-place.place c.in_ok-octets.octets.items pushed told
     ∙ c.loop-place.invariant came is

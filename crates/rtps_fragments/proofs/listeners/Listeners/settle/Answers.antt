@@ -1,7 +1,7 @@
 use Rattle.std.proofs.Common.{◌≡◌, ◌∙◌, ◌<◌, arith, length, refl, subst, sym}
 use Rattle.std.proofs.lemmas.List.{length-set}
-use Rattle.rtps_fragments.specs.Heard.{IsHeard}
-use Rattle.rtps_fragments.specs.Listeners.{came_to}
+use Rattle.rtps_fragments.specs.Heard as heard
+use Rattle.rtps_fragments.specs.Listeners as listeners_spec
 use Rattle.rtps_fragments.specs.declared.listeners.Listener.{Listener}
 use Rattle.rtps_fragments.proofs.ListenerLemmas.{all_so_far, none_so_far, one_so_far, same_read}
 use Rattle.rtps_fragments.proofs.listeners.Listeners.settle.Goals as goal
@@ -20,7 +20,7 @@ loop-place-preserved c =
       length-set listeners place _ ∙ c.loop-place.invariant.0,
       λ before now are.
           one_so_far c.args.last before now now now listeners place old one (c.loop-place.invariant.1 before now are) lt c.index_mut.ensures.value refl
-          (λ is. record { came = is.came; told = c.count-told.ensures.samples (came_to old.audience now.news) (subst (λ (l : Listener). IsHeard c.args.last (came_to old.audience now.news) l.heard) (sym same) is.came) }),
+          (λ is. record { came = is.came; told = c.count-told.ensures.samples (listeners_spec.came_to old.audience now.news) (subst (λ (l : Listener). heard.IsHeard c.args.last (listeners_spec.came_to old.audience now.news) l.heard) (sym same) is.came) }),
     )
 
 pub returns : goal.returns

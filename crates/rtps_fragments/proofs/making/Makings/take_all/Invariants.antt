@@ -1,11 +1,11 @@
 use Rattle.std.proofs.Common.{◌≡◌, ◌++◌, List, map, take}
-use Rattle.rtps_fragments.specs.Making.{AreMakings}
-use Rattle.rtps_fragments.specs.ToldSamples.{SentValue, overheard_in_turn, sent_value, told_in_turn, told_value}
+use Rattle.rtps_fragments.specs.Making as making
+use Rattle.rtps_fragments.specs.ToldSamples as told_samples
 use Rattle.rtps_fragments.proofs.making.Makings.take_all.Given as goal
 
 -- what the acts so far tell
 abbrev pub invariant-loop-sent : goal.invariant-loop-sent
 invariant-loop-sent l =
-    (before : List SentValue) → AreMakings before l.fn.self → AreMakings (before ++ map sent_value (take l.sent-index l.sents)) l.self
-    × (map told_value l.told.heard.items ≡ told_in_turn before (map sent_value (take l.sent-index l.sents)))
-    × (map told_value l.told.overheard.items ≡ overheard_in_turn before (map sent_value (take l.sent-index l.sents)))
+    (before : List told_samples.SentValue) → making.AreMakings before l.fn.self → making.AreMakings (before ++ map told_samples.sent_value (take l.sent-index l.sents)) l.self
+    × (map told_samples.told_value l.told.heard.items ≡ told_samples.told_in_turn before (map told_samples.sent_value (take l.sent-index l.sents)))
+    × (map told_samples.told_value l.told.overheard.items ≡ told_samples.overheard_in_turn before (map told_samples.sent_value (take l.sent-index l.sents)))

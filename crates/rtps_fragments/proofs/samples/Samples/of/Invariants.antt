@@ -1,16 +1,16 @@
 use Rattle.std.proofs.Common.{◌≡◌, [], map, take}
-use Rattle.rtps_fragments.specs.Making.{AreMakings}
-use Rattle.rtps_fragments.specs.Merging.{sents_in}
-use Rattle.rtps_fragments.specs.RecordedSamples.{by_datagram}
-use Rattle.rtps_fragments.specs.FragmentWalk.{sending_of}
-use Rattle.rtps_fragments.specs.ToldSamples.{overheard_behind, told_behind, told_value}
+use Rattle.rtps_fragments.specs.Making as making
+use Rattle.rtps_fragments.specs.Merging as merging
+use Rattle.rtps_fragments.specs.RecordedSamples as recorded_samples
+use Rattle.rtps_fragments.specs.FragmentWalk as fragment_walk
+use Rattle.rtps_fragments.specs.ToldSamples as told_samples
 use Rattle.rtps_fragments.proofs.samples.Samples.of.Given as goal
 
 -- what the datagrams so far send is kept, and what they tell
 pub record IsSoFar (l : goal.Live-loop-datagram) : Type 0 where
-  pub kept : AreMakings (sents_in (sending_of (map (λ datagram. datagram.now) (take l.datagram-index l.recording)))) l.makings
-  pub told : map (λ told. map told_value told.items) l.samples.told.items ≡ by_datagram told_behind [] (sending_of (map (λ datagram. datagram.now) (take l.datagram-index l.recording)))
-  pub overheard : map (λ told. map told_value told.items) l.samples.overheard.items ≡ by_datagram overheard_behind [] (sending_of (map (λ datagram. datagram.now) (take l.datagram-index l.recording)))
+  pub kept : making.AreMakings (merging.sents_in (fragment_walk.sending_of (map (λ datagram. datagram.now) (take l.datagram-index l.recording)))) l.makings
+  pub told : map (λ told. map told_samples.told_value told.items) l.samples.told.items ≡ recorded_samples.by_datagram told_samples.told_behind [] (fragment_walk.sending_of (map (λ datagram. datagram.now) (take l.datagram-index l.recording)))
+  pub overheard : map (λ told. map told_samples.told_value told.items) l.samples.overheard.items ≡ recorded_samples.by_datagram told_samples.overheard_behind [] (fragment_walk.sending_of (map (λ datagram. datagram.now) (take l.datagram-index l.recording)))
 
 abbrev pub invariant-loop-datagram : goal.invariant-loop-datagram
 invariant-loop-datagram l = IsSoFar l

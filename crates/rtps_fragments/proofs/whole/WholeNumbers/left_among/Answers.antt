@@ -1,6 +1,6 @@
 use Rattle.std.proofs.Common.{◌≡◌, ◌+◌, Bool, not, [], ◌∷◌, ◌++◌, ◌∙◌, ap, arith, map, sym, take}
-use Rattle.rtps_fragments.specs.ToldSamples.{sent_value}
-use Rattle.rtps_fragments.specs.Whole.{has_whole, left_among, key_number}
+use Rattle.rtps_fragments.specs.ToldSamples as told_samples
+use Rattle.rtps_fragments.specs.Whole as whole
 use Rattle.rtps_fragments.specs.declared.piece.SentFragments.{SentFragments}
 use Rattle.rtps_fragments.proofs.FragmentWalkLemmas.{at_most_one, one_of}
 use Rattle.rtps_fragments.proofs.ToldSoFar.{sents-more}
@@ -18,11 +18,11 @@ loop-sent-preserved c =
       | else-not-contains w ↦ omega (arith, w.left-is, ap (λ (b : Bool). one_of (not b)) w.if-not-contains.false)
     ] in
     let one = at_most_one (not c.contains.result) in
-    let sents_are : map sent_value (take (i + 1) sents) ≡ map sent_value (take i sents) ++ sent_value item ∷ [] = sents-more sents i item c.loop-sent-test.true ∙ ap (λ (s : SentFragments). map sent_value (take i sents) ++ sent_value s ∷ []) (sym c.sent-item.is) in
+    let sents_are : map told_samples.sent_value (take (i + 1) sents) ≡ map told_samples.sent_value (take i sents) ++ told_samples.sent_value item ∷ [] = sents-more sents i item c.loop-sent-test.true ∙ ap (λ (s : SentFragments). map told_samples.sent_value (take i sents) ++ told_samples.sent_value s ∷ []) (sym c.sent-item.is) in
     record {
       few = omega (arith, counted, one, c.loop-sent.invariant.few);
       left = λ all are.
-          let is : c.contains.result ≡ has_whole all (key_number item.key) = c.contains.ensures ∙ are c.key_number.result ∙ ap (has_whole all) c.key_number.ensures in
-          counted ∙ ap (λ n. n + one_of (not c.contains.result)) (c.loop-sent.invariant.left all are) ∙ ap (λ (b : Bool). left_among all (map sent_value (take i sents)) + one_of (not b)) is
-          ∙ sym (ap (left_among all) sents_are ∙ left-more all (map sent_value (take i sents)) (sent_value item));
+          let is : c.contains.result ≡ whole.has_whole all (whole.key_number item.key) = c.contains.ensures ∙ are c.key_number.result ∙ ap (whole.has_whole all) c.key_number.ensures in
+          counted ∙ ap (λ n. n + one_of (not c.contains.result)) (c.loop-sent.invariant.left all are) ∙ ap (λ (b : Bool). whole.left_among all (map told_samples.sent_value (take i sents)) + one_of (not b)) is
+          ∙ sym (ap (whole.left_among all) sents_are ∙ left-more all (map told_samples.sent_value (take i sents)) (told_samples.sent_value item));
     }

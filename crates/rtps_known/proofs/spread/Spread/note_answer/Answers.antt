@@ -2,10 +2,10 @@ use Rattle.std.proofs.Common.{◌∙◌, ◌||◌, ◌&&◌, Some, None, ap, con
 use Rattle.std.specs.BTreeMap.{get}
 use Rattle.std.specs.BTreeSet.{contains}
 use Rattle.std.specs.Option.{option_or}
-use Rattle.rtps_receiver.specs.Speech.{is_prefix}
-use Rattle.rtps_receiver.specs.Values.{spoken_value}
-use Rattle.rtps_known.specs.Bulletins.{prefix_cmp}
-use Rattle.rtps_known.specs.Spreads.{base_kept}
+use Rattle.rtps_receiver.specs.Speech as speech
+use Rattle.rtps_receiver.specs.Values as values
+use Rattle.rtps_known.specs.Bulletins as bulletins
+use Rattle.rtps_known.specs.Spreads as spreads
 use Rattle.rtps_known.proofs.SendingLemmas.{asker_kept}
 use Rattle.rtps_known.proofs.spread.Spread.note_answer.Goals as goal
 
@@ -17,12 +17,12 @@ returns c =
     record {
       sent = refl;
       bases = λ prefix n.
-          c.in_ok-note_base.ensures prefix n ∙ ap (λ base. nat_lt n (base_kept old.bases prefix) || (is_prefix source prefix && nat_lt n base)) c.base-acknowledged.ensures;
+          c.in_ok-note_base.ensures prefix n ∙ ap (λ base. nat_lt n (spreads.base_kept old.bases prefix) || (speech.is_prefix source prefix && nat_lt n base)) c.base-acknowledged.ensures;
       firsts = λ prefix.
           c.in_ok-note_first.ensures prefix
-          ∙ ap (λ base. option_or (get prefix_cmp old.firsts prefix) (cond (is_prefix source prefix && nat_lt 1 base) (Some c.args.place) None)) c.base-acknowledged.ensures;
-      askers = λ prefix there. c.in_ok-insert_if.ensures prefix ∙ ap (λ b. b || (is_prefix prefix source && nat_lt asked.lo asked.hi)) there;
+          ∙ ap (λ base. option_or (get bulletins.prefix_cmp old.firsts prefix) (cond (speech.is_prefix source prefix && nat_lt 1 base) (Some c.args.place) None)) c.base-acknowledged.ensures;
+      askers = λ prefix there. c.in_ok-insert_if.ensures prefix ∙ ap (λ b. b || (speech.is_prefix prefix source && nat_lt asked.lo asked.hi)) there;
       asker = λ prefix n asks.
-          asker_kept (spoken_value c.args.act.now) prefix n asked.lo asked.hi (contains prefix_cmp old.askers prefix) _ c.window-asked.ensures.among (c.in_ok-insert_if.ensures prefix) asks;
+          asker_kept (values.spoken_value c.args.act.now) prefix n asked.lo asked.hi (contains bulletins.prefix_cmp old.askers prefix) _ c.window-asked.ensures.among (c.in_ok-insert_if.ensures prefix) asks;
       again = λ prefix n. c.in_ok-note_asked.ensures prefix n;
     }

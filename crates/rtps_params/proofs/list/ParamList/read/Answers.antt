@@ -1,7 +1,7 @@
 use Rattle.std.proofs.Common.{arith}
 use Rattle.std.proofs.lemmas.List.{length-take}
 use Rattle.std.proofs.lemmas.Result.{err_from_is_err_and}
-use Rattle.rtps_params.specs.Reading.{pairs_of}
+use Rattle.rtps_params.specs.Reading as reading
 use Rattle.rtps_params.proofs.Agreement.{IsList-from_end, HasFault-from_end, no_list-from_end}
 use Rattle.rtps_params.proofs.list.ParamList.read.Goals as goal
 
@@ -18,7 +18,7 @@ slice_bounds-octets-end c =
 pub invariant_of-result : goal.invariant_of-result
 invariant_of-result c =
     let list = IsList-from_end c.args.order c.args.bytes.now c.in_ok-used.used c.in_ok-used.ensures in
-    record { is_list = ∣ (pairs_of c.args.order c.args.bytes.now, list.1) ∣₁ }
+    record { is_list = ∣ (reading.pairs_of c.args.order c.args.bytes.now, list.1) ∣₁ }
 
 pub returns-clause-list : goal.returns-clause-list
 returns-clause-list c = (IsList-from_end c.args.order c.args.bytes.now c.in_ok-used.used c.in_ok-used.ensures).1

@@ -1,8 +1,8 @@
 use Rattle.std.proofs.Common.{◌≡◌, ◌<◌, ◌+◌, ◌-◌, Some, arith, ap, drop, length, refl, sym, ◌∙◌}
-use Rattle.rtps_wire.specs.Message.{extent_of, id_of, octets_to_next_header}
+use Rattle.rtps_wire.specs.Message as message
 use Rattle.rtps_wire.proofs.Skips.{none_cut, none_overrun, none_skipped, one_skipped}
-use Rattle.rtps_wire.specs.Reading.{outcomes}
-use Rattle.rtps_wire.specs.Skipped.{skipped_next}
+use Rattle.rtps_wire.specs.Reading as reading
+use Rattle.rtps_wire.specs.Skipped as skipped
 use Rattle.rtps_wire.proofs.message.Items.take_skipped.Goals as goal
 use Rattle.rtps_wire.proofs.message.Items.take_skipped.Goals.{After-rest_at-self-inside}
 
@@ -15,16 +15,16 @@ returns-then-is_read-clause-id c =
 
 pub returns-then-declared-left-clause-id : goal.returns-then-declared-left-clause-id
 returns-then-declared-left-clause-id c =
-    let beyond : length c.self.inside.rest.now < 4 + octets_to_next_header c.self.inside.rest.now = omega (arith, c.if-declared-left.true, c.declared_by-declared.ensures) in
+    let beyond : length c.self.inside.rest.now < 4 + message.octets_to_next_header c.self.inside.rest.now = omega (arith, c.if-declared-left.true, c.declared_by-declared.ensures) in
     rw (← c.self.view_is) (sym (none_overrun c.self.inside.rest.now c.self.inside.at c.if-self-lt-SIZE.false beyond))
 
 taken : (c : After-rest_at-self-inside) → let rest = c.self.inside.rest.now in let at = c.self.inside.at in
-    (skipped_next (outcomes rest at) ≡ Some (id_of rest)) × (outcomes c.rest_at-self-inside.result.now (at + (4 + c.extent-size.result)) ≡ drop 1 (outcomes rest at))
+    (skipped.skipped_next (reading.outcomes rest at) ≡ Some (message.id_of rest)) × (reading.outcomes c.rest_at-self-inside.result.now (at + (4 + c.extent-size.result)) ≡ drop 1 (reading.outcomes rest at))
 taken c =
     let rest = c.self.inside.rest.now in
     let left = length rest - 4 in
     let declared = c.declared_by-declared.ensures in
-    let size = c.extent-size.ensures ∙ ap (λ d. extent_of (id_of rest) d left) declared in
+    let size = c.extent-size.ensures ∙ ap (λ d. message.extent_of (message.id_of rest) d left) declared in
     one_skipped rest _ c.self.inside.at _ left _ c.if-self-lt-SIZE.false (sym c.if-is_read.ensures) (omega (arith, c.if-self-lt-SIZE.false))
     (omega (arith, declared, c.if-declared-left.false)) size c.rest_at-self-inside.ensures refl
 
