@@ -60,7 +60,7 @@ use Rattle.rtps_report.specs.Findings as findings
 use Rattle.rtps_check.specs.ArrivedText as arrived_text_spec
 use Rattle.rtps_check.specs.DiscoveryText as discovery_text_spec
 use Rattle.rtps_check.specs.TalkText as talk_text
-use Rattle.rtps_check.specs.declared.checked_text.Told.{Told}
+use Rattle.rtps_check.specs.declared.checked_text.CheckFacts.{CheckFacts}
 use Rattle.rtps_check.specs.declared.sections.RowTelling.{RowTelling}
 use Rattle.rtps_lines.specs.declared.sentences.block.TheConstants as said
 
@@ -358,7 +358,7 @@ pub record IsTextBy (scope : Scope) (beside : Beside) (rows : List explanation.E
       ++ (discovery_text beside ++ (arrived_text_spec.lossy_lines beside.talk.ends lossy ++ ending_text scope beside totals rows))))
 
 -- what the code knows of it, as a value
-abbrev pub beside_value : Told → Beside
+abbrev pub beside_value : CheckFacts → Beside
 beside_value told =
     record {
       times = told.lost.times.now;

@@ -11,7 +11,7 @@ use Rattle.rtps_ids.specs.declared.identity.Guid.{Guid}
 use Rattle.rtps_lines.specs.Causes as causes
 use Rattle.rtps_lines.specs.EndText as end_text
 use Rattle.rtps_lines.specs.PolicyValues as policy_values
-use Rattle.rtps_lines.specs.declared.policy_values.Naming.{Naming}
+use Rattle.rtps_lines.specs.declared.policy_values.NameStyle.{NameStyle}
 use Rattle.rtps_parts.specs.Parts as parts
 use Rattle.rtps_parts.specs.RosNames as ros_names
 use Rattle.rtps_policies.specs.Announcing as announcing
@@ -45,7 +45,7 @@ pub record AreByTopic (unmatched sorted : List unmatched.UnmatchedValue) : Type 
 -- what is offered of a policy, and what is asked for
 abbrev pub policy_line : unmatched.UnmatchedValue → Policy → List ℕ
 policy_line one policy =
-    concat (codes "    " ∷ policy_values.policy_words policy ∷ codes ": offers " ∷ policy_values.value_text Naming.Ros policy one.writer ∷ codes "; asks for " ∷ policy_values.value_text Naming.Ros policy one.reader
+    concat (codes "    " ∷ policy_values.policy_words policy ∷ codes ": offers " ∷ policy_values.value_text NameStyle.Ros policy one.writer ∷ codes "; asks for " ∷ policy_values.value_text NameStyle.Ros policy one.reader
     ∷ codes "\n" ∷ [])
 
 -- the lines of a writer and a reader, and of each policy that does not suit

@@ -1,8 +1,5 @@
 ghost use Rattle.std.specs.Prelude.{◌≡◌, ◌++◌, OnOk, IfOk, map, flat_map, string_bytes};
-ghost use Rattle.rtps_audit.specs.Index as index;
 ghost use Rattle.rtps_evidence.specs.Explanation as explanation;
-ghost use Rattle.rtps_fragments.specs.RecordedSamples as recorded_samples;
-ghost use Rattle.rtps_fragments.specs.declared.fragments.Fragments.TheVariants.{Read as ReadFragments};
 ghost use Rattle.rtps_parts.specs.Parts as parts;
 ghost use Rattle.rtps_report.specs.Asked as asked;
 ghost use Rattle.rtps_report.specs.FullReport as full_report;
@@ -34,7 +31,7 @@ use std::alloc::{AllocError, Global};
 
 /// What is told of a recording, of which the rows stand by topic.
 #[derive(Clone, Copy)]
-struct Told<'r, 'a> {
+struct CheckFacts<'r, 'a> {
     scope: Scope,
     lost: LostRows<'r>,
     facts: NoteFacts,
@@ -103,7 +100,7 @@ fn push_clean(text: &mut String, side: Option<SideFacts>, totals: &Totals) -> Re
     text.push_str("\n")
 }
 
-fn push_first(text: &mut String, totals: &Totals, told: &Told<'_, '_>) -> Result<(), AllocError>
+fn push_first(text: &mut String, totals: &Totals, told: &CheckFacts<'_, '_>) -> Result<(), AllocError>
     ensures { OnOk result (string_bytes text.new ≡ string_bytes text.old ++ check_text_spec.first_lines totals.now (check_text_spec.beside_value told.now)) }
 {
     if totals.pairs == 0 {
@@ -135,7 +132,7 @@ fn push_notes(text: &mut String, notes: &[String]) -> Result<(), AllocError>
 fn push_topics(
     alloc: Global,
     text: &mut String,
-    told: &Told<'_, '_>,
+    told: &CheckFacts<'_, '_>,
     totals: &Totals,
 ) -> Result<(), AllocError>
     ensures { OnOk result (string_bytes text.new ≡ string_bytes text.old ++ check_text_spec.topics_text (check_text_spec.told_beside told.now.scope (check_text_spec.beside_value told.now)) (check_text_spec.beside_value told.now).events totals.now (map explanation.explanation_value told.now.rows.now)) }
@@ -151,7 +148,7 @@ fn push_topics(
     push_tail_block(alloc, text, told.rows, telling)
 }
 
-fn told_notes(alloc: Global, told: &Told<'_, '_>) -> Result<Vec<String>, AllocError>
+fn told_notes(alloc: Global, told: &CheckFacts<'_, '_>) -> Result<Vec<String>, AllocError>
     ensures { IfOk result (λ notes. map string_bytes notes.items
         ≡ check_text_spec.told_notes told.now.scope (check_text_spec.beside_value told.now) (map explanation.explanation_value told.now.rows.now)) }
 {
@@ -177,7 +174,7 @@ fn told_notes(alloc: Global, told: &Told<'_, '_>) -> Result<Vec<String>, AllocEr
 fn push_ending(
     alloc: Global,
     text: &mut String,
-    told: &Told<'_, '_>,
+    told: &CheckFacts<'_, '_>,
     totals: &Totals,
 ) -> Result<(), AllocError>
     ensures { OnOk result (string_bytes text.new
@@ -196,7 +193,7 @@ fn push_ending(
 }
 
 /// Appends who was never told of what, who has two lives, and who talks one way.
-fn push_discovery(text: &mut String, told: &Told<'_, '_>) -> Result<(), AllocError>
+fn push_discovery(text: &mut String, told: &CheckFacts<'_, '_>) -> Result<(), AllocError>
     ensures { OnOk result (string_bytes text.new ≡ string_bytes text.old ++ check_text_spec.discovery_text (check_text_spec.beside_value told.now)) }
 {
     push_not_told_block(text, told.talk)?;
@@ -204,7 +201,7 @@ fn push_discovery(text: &mut String, told: &Told<'_, '_>) -> Result<(), AllocErr
     push_one_way_block(text, told.talk)
 }
 
-fn text_of(alloc: Global, told: &Told<'_, '_>) -> Result<String, AllocError>
+fn text_of(alloc: Global, told: &CheckFacts<'_, '_>) -> Result<String, AllocError>
     ensures { IfOk result (λ text. check_text_spec.IsTextBy told.now.scope (check_text_spec.beside_value told.now) (map explanation.explanation_value told.now.rows.now) (string_bytes text)) }
 {
     let totals = totals_of(told.rows, told.scope);
@@ -220,7 +217,7 @@ fn text_of(alloc: Global, told: &Told<'_, '_>) -> Result<String, AllocError>
 
 /// What to do where a report has no pair to judge; nothing where it has some.
 fn remedy_of(alloc: Global, report: &FullReport<'_>) -> Result<String, AllocError>
-    requires { index.IsIndexBy (recorded_samples.intake_as ReadFragments report.now.recording.now.datagrams) report.now.index }
+    requires { full_report.IsIndexed report.now }
     ensures { IfOk result (λ text. check_text_spec.IsRemedyIn (asked.asked_value report.now.asked.now) report.now.recording.now (full_report.report_value report.now) (string_bytes text)) }
 {
     if report.explained.rows.is_empty() {
@@ -232,7 +229,7 @@ fn remedy_of(alloc: Global, report: &FullReport<'_>) -> Result<String, AllocErro
 
 /// What `check` prints of a report.
 pub fn check_text(alloc: Global, report: &FullReport<'_>) -> Result<String, AllocError>
-    requires { index.IsIndexBy (recorded_samples.intake_as ReadFragments report.now.recording.now.datagrams) report.now.index }
+    requires { full_report.IsIndexed report.now }
     ensures { IfOk result (λ text. check_text_spec.IsCheckText (asked.asked_value report.now.asked.now) report.now.recording.now (full_report.report_value report.now) (string_bytes text)) }
 {
     let rows = by_topic(alloc, &report.explained.rows)?;
@@ -241,7 +238,7 @@ pub fn check_text(alloc: Global, report: &FullReport<'_>) -> Result<String, Allo
     let talking = unmatched_by_topic(alloc, &report.talk.talking)?;
     let names = talking_names(alloc, talking)?;
     let left_out = left_by_topic(alloc, &report.talk.left_out)?;
-    let told = Told {
+    let told = CheckFacts {
         scope: scope_of(report),
         lost: LostRows {
             rows: &report.explained.lost,

@@ -6,7 +6,7 @@ ghost use Rattle.rtps_check.specs.TalkText as talk_text;
 
 use rtps_ids::Guid;
 use rtps_lines::sentences::block as said;
-use rtps_lines::{EndText, Naming, PolicyValue, unmatched_words, words_of_policy};
+use rtps_lines::{EndText, NameStyle, PolicyValue, unmatched_words, words_of_policy};
 use rtps_parts::{Part, render};
 use rtps_policies::{Policy, Unmatched};
 use rtps_report::{LeftOut, Talk};
@@ -51,7 +51,7 @@ pub(crate) fn left_by_topic<'a>(
 fn push_policy(text: &mut String, one: &Unmatched<'_>, policy: Policy) -> Result<(), AllocError>
     ensures { OnOk result (string_bytes text.new ≡ string_bytes text.old ++ talk_text.policy_line (unmatched_spec.unmatched_value one.now) policy) }
 {
-    let naming = Naming::Ros;
+    let naming = NameStyle::Ros;
     let offered = PolicyValue {
         policy,
         profile: &one.writer,

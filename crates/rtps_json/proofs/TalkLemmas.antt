@@ -25,14 +25,14 @@ use Rattle.rtps_json.specs.JsonText as json_text
 use Rattle.rtps_lines.specs.PolicyValues as policy_values
 use Rattle.rtps_json.specs.AddressMembers as address_members
 use Rattle.rtps_json.specs.TalkMembers as talk_members
-use Rattle.rtps_lines.specs.declared.policy_values.Naming.{Naming}
+use Rattle.rtps_lines.specs.declared.policy_values.NameStyle.{NameStyle}
 use Rattle.rtps_json.proofs.JsonLemmas.{items_within, joined, numbers_within, place_within, second_within, timed_within}
 
 reasons_within : (policies : List Policy) → depth (talk_members.reasons_json policies) ≤ 1
 reasons_within policies = omega (arith, items_within (λ policy. string (policy_text.policy_name policy)) 0 policies (λ policy. omega arith))
 
 values_within : (policies : List Policy) (profile : fitting.ProfileValue) → depth (talk_members.values_json policies profile) ≤ 1
-values_within policies profile = omega (arith, items_within (λ policy. string (policy_values.value_text Naming.Dds policy profile)) 0 policies (λ policy. omega arith))
+values_within policies profile = omega (arith, items_within (λ policy. string (policy_values.value_text NameStyle.Dds policy profile)) 0 policies (λ policy. omega arith))
 
 unmatched_within : (one : unmatched.UnmatchedValue) → depth (talk_members.unmatched_json one) ≤ 2
 unmatched_within one = omega (arith, reasons_within one.reasons, values_within one.reasons one.writer, values_within one.reasons one.reader)

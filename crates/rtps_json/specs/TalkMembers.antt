@@ -24,7 +24,7 @@ use Rattle.rtps_json.specs.DiscoveryMembers as discovery_members
 use Rattle.rtps_json.specs.EndMembers as end_members
 use Rattle.rtps_json.specs.JsonText as json_text
 use Rattle.rtps_lines.specs.PolicyValues as policy_values
-use Rattle.rtps_lines.specs.declared.policy_values.Naming.{Naming}
+use Rattle.rtps_lines.specs.declared.policy_values.NameStyle.{NameStyle}
 
 -- the names of policies
 abbrev pub reasons_json : List Policy → Json
@@ -32,7 +32,7 @@ reasons_json policies = json_text.array_of (map (λ policy. string (policy_text.
 
 -- what an endpoint has of policies
 abbrev pub values_json : List Policy → fitting.ProfileValue → Json
-values_json policies profile = json_text.array_of (map (λ policy. string (policy_values.value_text Naming.Dds policy profile)) policies)
+values_json policies profile = json_text.array_of (map (λ policy. string (policy_values.value_text NameStyle.Dds policy profile)) policies)
 
 -- a writer and a reader that do not match, and for each policy that does not suit what is offered and what is requested
 abbrev pub unmatched_json : unmatched.UnmatchedValue → Json

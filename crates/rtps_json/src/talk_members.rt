@@ -4,7 +4,7 @@ ghost use Rattle.std.specs.Prelude.{◌≡◌, ◌∷◌, [], IfOk, is_some, map
 ghost use Rattle.std.specs.Option.{option_map};
 ghost use Rattle.json.specs.Json.{string};
 ghost use Rattle.rtps_lines.specs.PolicyValues.{value_text};
-ghost use Rattle.rtps_lines.specs.declared.policy_values.Naming.TheVariants.{Dds};
+ghost use Rattle.rtps_lines.specs.declared.policy_values.NameStyle.TheVariants.{Dds};
 ghost use Rattle.rtps_policies.specs.Fitting.{profile_value};
 ghost use Rattle.rtps_policies.specs.PolicyText.{policy_name};
 ghost use Rattle.rtps_policies.specs.Unmatched.{unmatched_value};
@@ -21,7 +21,7 @@ use crate::discovery_members::discovery_members;
 use crate::end_members::{nodes_member, process_members};
 use crate::json_members::{Clock, frame_member, second_member, timed};
 use crate::values::{Made, Member, Members, Value, array, joined, name, object, some_count};
-use rtps_lines::{Naming, PolicyValue};
+use rtps_lines::{NameStyle, PolicyValue};
 use rtps_policies::{Address, OneWay, Policy, Profile, Silence, Unmatched, participant_of};
 use rtps_report::{BestEffort, FullReport, HeldPair, LeftOut, Participant, Stay, Talk};
 use std::alloc::Global;
@@ -54,7 +54,7 @@ fn policy_value(policy: Policy, profile: &Profile<'_>, alloc: Global) -> Made<Va
     let value = PolicyValue {
         policy,
         profile,
-        naming: Naming::Dds,
+        naming: NameStyle::Dds,
     };
     let mut text = String::new(alloc);
     write!(text, "{value}")?;

@@ -16,7 +16,7 @@ use Rattle.rtps_policies.specs.declared.liveliness.Liveliness.{Liveliness}
 use Rattle.rtps_policies.specs.declared.liveliness.LivelinessKind.{LivelinessKind}
 use Rattle.rtps_policies.specs.declared.presentation.AccessScope.{AccessScope}
 use Rattle.rtps_policies.specs.declared.presentation.Presentation.{Presentation}
-use Rattle.rtps_lines.specs.declared.policy_values.Naming.{Naming}
+use Rattle.rtps_lines.specs.declared.policy_values.NameStyle.{NameStyle}
 
 -- a reliability in words
 unfoldable pub reliability_word : Reliability → List ℕ
@@ -76,12 +76,12 @@ representations_text profile =
     else join_by id_text (codes ", ") (views.accepted_in profile.policies.representations)
 
 -- the name of a type, by DDS or by ROS 2
-abbrev pub type_name_text : Naming → List ℕ → List ℕ
-type_name_text Naming.Dds kind = flat_map names.octet_text kind
-type_name_text Naming.Ros kind = ros_names.type_text kind
+abbrev pub type_name_text : NameStyle → List ℕ → List ℕ
+type_name_text NameStyle.Dds kind = flat_map names.octet_text kind
+type_name_text NameStyle.Ros kind = ros_names.type_text kind
 
 -- what an endpoint has of a policy
-abbrev pub value_text : Naming → Policy → fitting.ProfileValue → List ℕ
+abbrev pub value_text : NameStyle → Policy → fitting.ProfileValue → List ℕ
 value_text naming Policy.Reliability profile = reliability_word profile.endpoint.reliability
 value_text naming Policy.Durability profile = durability_word profile.endpoint.durability
 value_text naming Policy.Deadline profile = duration_text.duration_text profile.policies.deadline

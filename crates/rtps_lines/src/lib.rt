@@ -37,7 +37,7 @@ pub use late_notes::{LateText, late_lines};
 pub use no_pair_text::no_pair_remedy;
 pub use notes::{NotedRows, names_of, notes_of, number_words, topic_name};
 pub use number_ranges::{LostRows, push_lost_lines, push_more};
-pub use policy_values::{Naming, PolicyValue, words_of_policy};
+pub use policy_values::{NameStyle, PolicyValue, words_of_policy};
 pub use report_ends::{push_report_last, report_causes, report_notes};
 pub use silent_participants::silence_lines;
 pub use tail_names::longest_tail;

@@ -1,8 +1,5 @@
 ghost use Rattle.std.specs.Prelude.{◌≡◌, ◌++◌, IfOk, OnOk, map, take};
 ghost use Rattle.std.specs.String.{string_bytes};
-ghost use Rattle.rtps_audit.specs.Index as index;
-ghost use Rattle.rtps_fragments.specs.RecordedSamples as recorded_samples;
-ghost use Rattle.rtps_fragments.specs.declared.fragments.Fragments.TheVariants.{Read as ReadFragments};
 ghost use Rattle.rtps_parts.specs.Parts as parts;
 ghost use Rattle.rtps_report.specs.Asked as asked;
 ghost use Rattle.rtps_report.specs.FullReport as full_report;
@@ -175,7 +172,7 @@ fn push_no_pair(text: &mut String, talk: &Talk<'_>, why: &WhyNoPair<'_>) -> Resu
 
 /// Why there is no pair to judge in a report where there is none, and what to do.
 pub fn no_pair_remedy(alloc: Global, report: &FullReport<'_>) -> Result<String, AllocError>
-    requires { index.IsIndexBy (recorded_samples.intake_as ReadFragments report.now.recording.now.datagrams) report.now.index }
+    requires { full_report.IsIndexed report.now }
     ensures { IfOk result (λ text. no_pair_text_spec.IsRemedyOf (asked.asked_value report.now.asked.now) report.now.recording.now (full_report.report_value report.now) (string_bytes text)) }
 {
     let Ok(why) = no_pair_of(alloc, report) else {

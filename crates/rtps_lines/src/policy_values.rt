@@ -18,7 +18,7 @@ use std::fmt;
 
 /// By which names types are told.
 #[derive(Clone, Copy)]
-pub enum Naming {
+pub enum NameStyle {
     /// Those of DDS.
     Dds,
     /// Those that ROS 2 gives.
@@ -180,15 +180,15 @@ impl fmt::Display for LivelinessText {
 
 /// The name of a type.
 #[derive(Drop)]
-struct TypeNameText<'a>(&'a [u8], Naming);
+struct TypeNameText<'a>(&'a [u8], NameStyle);
 
 impl fmt::Display for TypeNameText<'_> {
     ghost output = { λ text. Some (policy_values.type_name_text text.1 text.0.now) };
 
     fn fmt<W: fmt::Write>(&self, f: &mut fmt::Formatter<W>) -> fmt::Result {
         match self.1 {
-            Naming::Dds => write!(f, "{}", NameOctets(self.0)),
-            Naming::Ros => write!(f, "{}", TypeText(self.0)),
+            NameStyle::Dds => write!(f, "{}", NameOctets(self.0)),
+            NameStyle::Ros => write!(f, "{}", TypeText(self.0)),
         }
     }
 }
@@ -198,7 +198,7 @@ impl fmt::Display for TypeNameText<'_> {
 pub struct PolicyValue<'p, 'a> {
     pub policy: Policy,
     pub profile: &'p Profile<'a>,
-    pub naming: Naming,
+    pub naming: NameStyle,
 }
 
 impl fmt::Display for PolicyValue<'_, '_> {

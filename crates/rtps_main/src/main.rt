@@ -200,7 +200,7 @@ fn tell_ignored(rt: &HostRuntime, choice: &Choice, ignored: Option<u64>) {
 
 /// An input as it is told of: its name, what is known of it, how it is read, and the words that read it from standard input.
 #[derive(Clone, Copy)]
-struct Told<'a> {
+struct NamedInput<'a> {
     name: Name<'a>,
     seen: &'a Seen,
     options: Options<'a>,
@@ -214,11 +214,11 @@ fn told_of<'a>(
     name: Option<&'a str>,
     seen: &'a Seen,
     words: &'a str,
-) -> Option<Told<'a>> {
+) -> Option<NamedInput<'a>> {
     let (Some(name), Some(options)) = (name, choice.options()) else {
         return None;
     };
-    Some(Told {
+    Some(NamedInput {
         name: Name(name),
         seen,
         options,
@@ -281,7 +281,7 @@ fn command_of(choice: &Choice) -> &'static str {
 }
 
 /// Prints what the line of a fault does not say: the name of the input, and why it cannot be read or is refused.
-fn tell_of_input(rt: &HostRuntime, told: &Told<'_>, fault: Option<RunFault>) {
+fn tell_of_input(rt: &HostRuntime, told: &NamedInput<'_>, fault: Option<RunFault>) {
     let file = told.name;
     if let Some(failure) = told.seen.failure() {
         tell_reason(rt, file, failure);
@@ -311,7 +311,7 @@ fn tell_damage(rt: &HostRuntime, file: Name<'_>, frame: u64) {
 }
 
 /// Prints the limit that an input is above, and the option that raises it. The limit of octets comes first.
-fn tell_limit(rt: &HostRuntime, told: &Told<'_>) {
+fn tell_limit(rt: &HostRuntime, told: &NamedInput<'_>) {
     let limits = told.options.limits;
     let (most, what, option) = if told.seen.octets() > limits.octets {
         (limits.octets, "octets", "--max-octets")
@@ -326,7 +326,7 @@ fn tell_limit(rt: &HostRuntime, told: &Told<'_>) {
 }
 
 /// If an input is refused and has a form that is told, prints which, and a command that makes a recording of it.
-fn tell_packed(rt: &HostRuntime, told: &Told<'_>) {
+fn tell_packed(rt: &HostRuntime, told: &NamedInput<'_>) {
     let Some(form) = packed_as(told.seen.front()) else {
         return;
     };

@@ -1,7 +1,4 @@
 ghost use Rattle.std.specs.Prelude.{◌≡◌, ◌++◌, IfOk, IsUtf8, string_bytes};
-ghost use Rattle.rtps_audit.specs.Index as index;
-ghost use Rattle.rtps_fragments.specs.RecordedSamples as recorded_samples;
-ghost use Rattle.rtps_fragments.specs.declared.fragments.Fragments.TheVariants.{Read};
 ghost use Rattle.rtps_report.specs.Asked as asked;
 ghost use Rattle.rtps_report.specs.FullReport as full_report;
 ghost use Rattle.rtps_page.specs.Origin as origin_spec;
@@ -25,7 +22,7 @@ pub fn page_text(
     plain: &str,
     origin: Origin<'_>,
 ) -> Result<String, Memory>
-    requires { index.IsIndexBy (recorded_samples.intake_as Read report.now.recording.now.datagrams) report.now.index }
+    requires { full_report.IsIndexed report.now }
     ensures { IfOk result (λ page. page_spec.IsPageOf (origin_spec.origin_value origin.entry) (asked.asked_value report.now.asked.now) report.now.recording.now (full_report.report_value report.now) plain.now (string_bytes page)) }
 {
     let directory = report.index.directory();

@@ -109,6 +109,10 @@ pub record IsFullReport (asked : asked_spec.AskedValue) (other : Option recordin
   pub order : report.order ≡ order.order_by other recording (rows_of report) report.talk.ways
   pub ends : report.ending ≡ findings.ending_as asked (facts_of asked recording report)
 
+-- a report has the index of its recording, with its fragments
+abbrev pub IsIndexed : FullReport → Type 0
+IsIndexed report = index.IsIndexBy (recorded_samples.intake_as Fragments.Read report.recording.now.datagrams) report.index
+
 -- the code has it, beside what it is of and the index that it is by
 pub record IsReportOf (asked : asked_spec.AskedValue) (other : Option recording.RecordingValue) (recording : recording.RecordingValue) (report : FullReport) : Type 0 where
   pub asks : asked_spec.asked_value report.asked.now ≡ asked

@@ -48,7 +48,7 @@ use Rattle.rtps_report.specs.TwoLives as two_lives
 use Rattle.rtps_report.specs.Ways as ways
 use Rattle.rtps_report.specs.declared.late_matches.LateMatch.{LateMatch}
 use Rattle.rtps_report.specs.declared.participant.Participant.{Participant}
-use Rattle.rtps_report.specs.declared.talk.Heard.{Heard}
+use Rattle.rtps_report.specs.declared.talk.ReadRecording.{ReadRecording}
 use Rattle.rtps_report.specs.declared.talk.LeftOut.{LeftOut}
 use Rattle.rtps_report.specs.declared.talk.Talk.{Talk}
 use Rattle.rtps_report.specs.declared.two_lives.TwoLives.{TwoLives}
@@ -261,11 +261,11 @@ IsTalkAs asked other recording talk = IsTalkOf asked other recording.datagrams r
 
 -- what is known of a recording to say so: its index, the other recording, if there is one, what it announces, and the DATA of built-in
 -- writers, which announce it
-pub record IsHeardIn (intake : intake_spec.Intake) (other : Option other_side.OtherRecording) (heard : Heard) : Type 0 where
-  pub index : index.IsIndexBy intake heard.index.now
-  pub beside : other_side.IsOtherSide other heard.other
-  pub directory : directory_spec.IsMapOf (intake_spec.acts_together intake.announcing) heard.directory.now
-  pub announcements : map placed.placed_value heard.announcements.now ≡ announcements.announcements_in intake.announcing
+pub record IsReadIn (intake : intake_spec.Intake) (other : Option other_side.OtherRecording) (read : ReadRecording) : Type 0 where
+  pub index : index.IsIndexBy intake read.index.now
+  pub beside : other_side.IsOtherSide other read.other
+  pub directory : directory_spec.IsMapOf (intake_spec.acts_together intake.announcing) read.directory.now
+  pub announcements : map placed.placed_value read.announcements.now ≡ announcements.announcements_in intake.announcing
 
 -- what is kept of those that do not match, and of who names whom
 pub record IsKeptOf (asked : asked.AskedValue) (intake : intake_spec.Intake) (traffic : silence.Traffic) (entries : directory_spec.Entries) (talk : Talk) : Type 0 where

@@ -14,7 +14,7 @@ ghost use Rattle.rtps_report.specs.Visits as visits_spec;
 use crate::not_told::{NotTold, all_not_told};
 use crate::participant::{Participant, joined_of};
 use crate::presence::Presences;
-use crate::talk::{Heard, participants_of};
+use crate::talk::{ReadRecording, participants_of};
 use crate::two_lives::{TwoLives, first_lives};
 use crate::visits::{Seen, visits_of};
 use rtps_evidence::Times;
@@ -43,26 +43,26 @@ struct Attending {
 fn attend(
     alloc: Global,
     announced: &Announced<'_>,
-    heard: &Heard<'_, '_, '_, '_>,
+    read: &ReadRecording<'_, '_, '_, '_>,
 ) -> Result<Attending, Memory>
-    ensures participants { IfOk result (λ attending. (intake : intake_spec.Intake) → index.IsIndexBy intake heard.now.index.now
-        → map placed.placed_value heard.now.announcements.now ≡ announcements.announcements_in intake.announcing
+    ensures participants { IfOk result (λ attending. (intake : intake_spec.Intake) → index.IsIndexBy intake read.now.index.now
+        → map placed.placed_value read.now.announcements.now ≡ announcements.announcements_in intake.announcing
         → announcing.IsAnnouncedBy (intake_spec.acts_together intake.announcing) announced.now
         → attending.participants.items
-        ≡ map (participants_spec.participant_told intake (map (λ datagram. datagram.now) heard.now.datagrams.now) heard.now.times.now) heard.now.directory.now.participants) }
-    ensures visits { IfOk result (λ attending. (intake : intake_spec.Intake) → index.IsIndexBy intake heard.now.index.now
-        → map placed.placed_value heard.now.announcements.now ≡ announcements.announcements_in intake.announcing
+        ≡ map (participants_spec.participant_told intake (map (λ datagram. datagram.now) read.now.datagrams.now) read.now.times.now) read.now.directory.now.participants) }
+    ensures visits { IfOk result (λ attending. (intake : intake_spec.Intake) → index.IsIndexBy intake read.now.index.now
+        → map placed.placed_value read.now.announcements.now ≡ announcements.announcements_in intake.announcing
         → announcing.IsAnnouncedBy (intake_spec.acts_together intake.announcing) announced.now
-        → visits_spec.AreVisitsIn intake (map (λ datagram. datagram.now) heard.now.datagrams.now) heard.now.times.now.of_datagrams heard.now.directory.now.participants attending.visits) }
+        → visits_spec.AreVisitsIn intake (map (λ datagram. datagram.now) read.now.datagrams.now) read.now.times.now.of_datagrams read.now.directory.now.participants attending.visits) }
 {
-    let joined = joined_of(alloc, heard.announcements)?;
-    let presences = Presences::of(alloc, heard.datagrams, heard.times)?;
+    let joined = joined_of(alloc, read.announcements)?;
+    let presences = Presences::of(alloc, read.datagrams, read.times)?;
     let seen = Seen {
         joined: &joined,
         presences: &presences,
-        times: heard.times,
+        times: read.times,
     };
-    let participants = participants_of(alloc, announced, heard, seen)?;
+    let participants = participants_of(alloc, announced, read, seen)?;
     let visits = visits_of(alloc, &participants, seen)?;
     Ok(Attending {
         participants,
@@ -87,29 +87,29 @@ fn lives_of(alloc: Global, known: &Known, times: &Times) -> Result<Vec<TwoLives>
 pub(crate) fn discovered_in<'a>(
     alloc: Global,
     announced: &Announced<'_>,
-    heard: &Heard<'_, 'a, '_, '_>,
+    read: &ReadRecording<'_, 'a, '_, '_>,
     known: &Known,
 ) -> Result<Discovered<'a>, Memory>
-    requires { recorded.IsKnownOf (acts_read.timed_acts (map (λ datagram. datagram.now) heard.now.datagrams.now) heard.now.times.now.of_datagrams) known.now }
-    ensures participants { IfOk result (λ found. (intake : intake_spec.Intake) → index.IsIndexBy intake heard.now.index.now
-        → map placed.placed_value heard.now.announcements.now ≡ announcements.announcements_in intake.announcing
+    requires { recorded.IsKnownOf (acts_read.timed_acts (map (λ datagram. datagram.now) read.now.datagrams.now) read.now.times.now.of_datagrams) known.now }
+    ensures participants { IfOk result (λ found. (intake : intake_spec.Intake) → index.IsIndexBy intake read.now.index.now
+        → map placed.placed_value read.now.announcements.now ≡ announcements.announcements_in intake.announcing
         → announcing.IsAnnouncedBy (intake_spec.acts_together intake.announcing) announced.now
         → found.participants.items
-        ≡ map (participants_spec.participant_told intake (map (λ datagram. datagram.now) heard.now.datagrams.now) heard.now.times.now) heard.now.directory.now.participants) }
-    ensures not_told { IfOk result (λ found. (intake : intake_spec.Intake) → index.IsIndexBy intake heard.now.index.now
-        → map placed.placed_value heard.now.announcements.now ≡ announcements.announcements_in intake.announcing
+        ≡ map (participants_spec.participant_told intake (map (λ datagram. datagram.now) read.now.datagrams.now) read.now.times.now) read.now.directory.now.participants) }
+    ensures not_told { IfOk result (λ found. (intake : intake_spec.Intake) → index.IsIndexBy intake read.now.index.now
+        → map placed.placed_value read.now.announcements.now ≡ announcements.announcements_in intake.announcing
         → announcing.IsAnnouncedBy (intake_spec.acts_together intake.announcing) announced.now
-        → not_told_spec.AreNotToldIn intake (map (λ datagram. datagram.now) heard.now.datagrams.now) heard.now.times.now.of_datagrams heard.now.directory.now
+        → not_told_spec.AreNotToldIn intake (map (λ datagram. datagram.now) read.now.datagrams.now) read.now.times.now.of_datagrams read.now.directory.now
         (map not_told_spec.not_told_value found.not_told.items)) }
-    ensures lives { IfOk result (λ found. two_lives.AreTwoLivesIn (map (λ datagram. datagram.now) heard.now.datagrams.now) heard.now.times.now.of_datagrams found.lives.items) }
+    ensures lives { IfOk result (λ found. two_lives.AreTwoLivesIn (map (λ datagram. datagram.now) read.now.datagrams.now) read.now.times.now.of_datagrams found.lives.items) }
 {
     let Attending {
         participants,
         visits,
-    } = attend(alloc, announced, heard)?;
+    } = attend(alloc, announced, read)?;
     let untold = known.untold(&visits, announced)?;
-    let not_told = all_not_told(alloc, heard.directory, &untold)?;
-    let lives = lives_of(alloc, known, heard.times)?;
+    let not_told = all_not_told(alloc, read.directory, &untold)?;
+    let lives = lives_of(alloc, known, read.times)?;
     Ok(Discovered {
         participants,
         not_told,

@@ -19,7 +19,7 @@ use crate::reader_side::{beside, side_by};
 use crate::recording::{Recording, datagrams_of};
 use crate::row_facts::facts_of;
 use crate::row_pairs::{Wanted, row_pairs};
-use crate::talk::{Heard, Talk, talk_in};
+use crate::talk::{ReadRecording, Talk, talk_in};
 use rtps_audit::{Index, Report, Watch};
 use rtps_discovery::laws::one_map;
 use rtps_evidence::{Explained, OtherSide, Sides, explain_pairs};
@@ -29,7 +29,7 @@ use std::alloc::Global;
 
 /// A recording, what is asked of it, and another recording against which its rows are held.
 #[derive(Clone, Copy)]
-pub struct Subject<'a> {
+pub struct Inquiry<'a> {
     pub recording: &'a Recording,
     pub asked: &'a Asked<'a>,
     /// Another recording, made at the host of readers; None where there is none.
@@ -57,7 +57,7 @@ pub struct FullReport<'a> {
 
 /// The index of a recording, and who does not talk.
 #[derive(Drop)]
-struct Noted<'a> {
+struct IndexAndTalk<'a> {
     index: Index<'a>,
     talk: Talk<'a>,
 }
@@ -66,22 +66,22 @@ struct Noted<'a> {
 /// that both borrow. `Memory` is answered where there is none for it.
 fn noted_in<'a>(
     alloc: Global,
-    subject: Subject<'a>,
+    inquiry: Inquiry<'a>,
     samples: &'a mut Samples,
     other: Option<OtherSide<'_, '_>>,
-) -> Result<Noted<'a>, Memory>
-    ensures { (theirs : Option other_side.OtherRecording) → other_side.IsOtherSide theirs other.entry → IfOk result (λ noted. index_spec.IsIndexBy (recorded_samples.intake_as Read subject.entry.recording.now.datagrams) noted.index
-        × talk_spec.IsTalkAs (asked_spec.asked_value subject.entry.asked.now) theirs subject.entry.recording.now (talk_spec.talk_value noted.talk)
-        × talk_spec.IsKeptOf (asked_spec.asked_value subject.entry.asked.now) (recorded_samples.intake_as Read subject.entry.recording.now.datagrams) (talk_spec.traffic_of subject.entry.recording.now.datagrams)
+) -> Result<IndexAndTalk<'a>, Memory>
+    ensures { (theirs : Option other_side.OtherRecording) → other_side.IsOtherSide theirs other.entry → IfOk result (λ noted. index_spec.IsIndexBy (recorded_samples.intake_as Read inquiry.entry.recording.now.datagrams) noted.index
+        × talk_spec.IsTalkAs (asked_spec.asked_value inquiry.entry.asked.now) theirs inquiry.entry.recording.now (talk_spec.talk_value noted.talk)
+        × talk_spec.IsKeptOf (asked_spec.asked_value inquiry.entry.asked.now) (recorded_samples.intake_as Read inquiry.entry.recording.now.datagrams) (talk_spec.traffic_of inquiry.entry.recording.now.datagrams)
         noted.index.directory.endpoints noted.talk) }
 {
     // What an index took in announces one directory.
     one_map();
-    let Subject {
+    let Inquiry {
         recording,
         asked,
         ..
-    } = subject;
+    } = inquiry;
     let datagrams = datagrams_of(alloc, recording)?;
     let source = Source {
         recording: &datagrams,
@@ -91,7 +91,7 @@ fn noted_in<'a>(
     let indexed = index_told(alloc, source, samples, &mut acquaintance)?;
     let talk = talk_in(
         alloc,
-        &Heard {
+        &ReadRecording {
             datagrams: &datagrams,
             times: recording.times(),
             asked,
@@ -106,7 +106,7 @@ fn noted_in<'a>(
         index,
         announcements: _,
     } = indexed;
-    Ok(Noted { index, talk })
+    Ok(IndexAndTalk { index, talk })
 }
 
 /// Each pair that has a row, explained, and what was counted. It tells how far it is.
@@ -159,28 +159,28 @@ fn talk_facts_of(alloc: Global, talk: &Talk<'_>) -> Result<TalkFacts, Memory>
 /// the samples are put that it borrows. It tells how far it is. `Memory` is answered where what is kept cannot grow.
 pub fn report_on<'a, P: Watch>(
     alloc: Global,
-    subject: Subject<'a>,
+    inquiry: Inquiry<'a>,
     samples: &'a mut Samples,
     watch: &mut P,
 ) -> Result<FullReport<'a>, Memory>
-    ensures { IfOk result (full_report.IsReportOf (asked_spec.asked_value subject.entry.asked.now) (reader_side.arrived_value subject.entry.arrived) subject.entry.recording.now) }
+    ensures { IfOk result (full_report.IsReportOf (asked_spec.asked_value inquiry.entry.asked.now) (reader_side.arrived_value inquiry.entry.arrived) inquiry.entry.recording.now) }
 {
-    let Subject {
+    let Inquiry {
         recording,
         asked,
         arrived,
-    } = subject;
+    } = inquiry;
     let mut theirs = Samples::none(alloc);
     let side = side_by(alloc, arrived, &mut theirs)?;
     let other = beside(&side);
-    let Noted { index, talk } = noted_in(alloc, subject, samples, other)?;
+    let IndexAndTalk { index, talk } = noted_in(alloc, inquiry, samples, other)?;
     let sides = Sides {
         index: &index,
         other,
         times: recording.times(),
     };
     let explained = explained_of(alloc, &sides, asked, &talk, watch)?;
-    let order = order_by(alloc, subject, &explained.rows, talk.ways)?;
+    let order = order_by(alloc, inquiry, &explained.rows, talk.ways)?;
     let told = talk_facts_of(alloc, &talk)?;
     let facts = facts_of(asked, &explained, recording, (told, order));
     let ending = ending_of(asked, &facts);

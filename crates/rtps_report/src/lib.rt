@@ -53,7 +53,7 @@ pub use end::End;
 pub use event_rows::{EventKey, EventRows};
 pub use events::{Event, events_of};
 pub use findings::{Ending, Facts, FewRows, Findings, TalkFacts, ending_of};
-pub use full_report::{FullReport, Subject, report_on};
+pub use full_report::{FullReport, Inquiry, report_on};
 pub use late_matches::LateMatch;
 pub use late_row::{LateRow, is_late_alone, late_rows};
 pub use no_pair::{InDomain, NoPair, WhyNoPair, no_pair_of};

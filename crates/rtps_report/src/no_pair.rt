@@ -1,8 +1,5 @@
 ghost use Rattle.std.specs.Prelude.{◌≡◌, ◌++◌, ◌∷◌, [], IfOk, OnOk, is_some, map};
 ghost use Rattle.std.specs.List.{find, list_any};
-ghost use Rattle.rtps_audit.specs.Index as index;
-ghost use Rattle.rtps_fragments.specs.RecordedSamples as recorded_samples;
-ghost use Rattle.rtps_fragments.specs.declared.fragments.Fragments.TheVariants.{Read as ReadFragments};
 ghost use Rattle.rtps_report.specs.Asked as asked;
 ghost use Rattle.rtps_report.specs.Early as early_spec;
 ghost use Rattle.rtps_report.specs.FullReport as full_report;
@@ -215,7 +212,7 @@ fn cause_in(alloc: Global, report: &FullReport<'_>, one_side: bool) -> Result<No
 
 /// Why there is no pair in a report where there is none. `Memory` is answered where there is none to find out.
 pub fn no_pair_of<'a>(alloc: Global, report: &FullReport<'a>) -> Result<WhyNoPair<'a>, Memory>
-    requires { index.IsIndexBy (recorded_samples.intake_as ReadFragments report.now.recording.now.datagrams) report.now.index }
+    requires { full_report.IsIndexed report.now }
     ensures { IfOk result (λ why. no_pair.IsNoPairOf (asked.asked_value report.now.asked.now) report.now.recording.now (full_report.report_value report.now) why.cause (map one_sides_spec.one_sided_value why.one_sides.items)) }
 {
     let one_sides = one_sides_of(alloc, report)?;

@@ -1,11 +1,9 @@
 ghost use Rattle.std.specs.Prelude.{◌≡◌, ◌<◌, ◌≤◌, ◌∷◌, ◌++◌, ◌-◌, [], IfOk, OnOk, drop, length, map, slice_index_or, take};
 ghost use Rattle.std.specs.List.{cons_option, list_all, list_any};
 ghost use Rattle.std.specs.Option.{option_map};
-ghost use Rattle.rtps_audit.specs.Index as index;
+ghost use Rattle.rtps_report.specs.FullReport as full_report;
 ghost use Rattle.rtps_discovery.specs.Endpoint as endpoint_spec;
 ghost use Rattle.rtps_discovery.specs.declared.endpoint.Endpoint.{Endpoint as EndpointOf};
-ghost use Rattle.rtps_fragments.specs.RecordedSamples as recorded_samples;
-ghost use Rattle.rtps_fragments.specs.declared.fragments.Fragments.TheVariants.{Read as ReadFragments};
 ghost use Rattle.rtps_report.specs.Asked as asked_spec;
 ghost use Rattle.rtps_report.specs.OneSides as one_sides;
 ghost use Rattle.rtps_report.specs.Rows as rows;
@@ -177,7 +175,7 @@ fn one_sides_among<'a>(
 
 /// The topics of a report that have writers alone, or readers alone, of those that are asked for, octet by octet.
 pub fn one_sides_of<'a>(alloc: Global, report: &FullReport<'a>) -> Result<Vec<OneSided<'a>>, Memory>
-    requires { index.IsIndexBy (recorded_samples.intake_as ReadFragments report.now.recording.now.datagrams) report.now.index }
+    requires { full_report.IsIndexed report.now }
     ensures { IfOk result (λ found. one_sides.AreOneSidesIn (asked_spec.asked_value report.now.asked.now) report.now.recording.now.datagrams (talk_spec.talk_value report.now.talk) (map one_sides.one_sided_value found.items)) }
 {
     let endpoints = report.index.directory().endpoints()?;

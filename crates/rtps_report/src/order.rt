@@ -3,7 +3,7 @@ ghost use Rattle.rtps_evidence.specs.Explanation as explanation;
 ghost use Rattle.rtps_report.specs.Order as order_spec;
 ghost use Rattle.rtps_report.specs.ReaderSide as reader_side;
 
-use crate::full_report::Subject;
+use crate::full_report::Inquiry;
 use crate::twice::is_twice;
 use crate::ways::{Ways, ways_of_rows};
 use rtps_evidence::Explanation;
@@ -60,17 +60,17 @@ impl Order {
     }
 }
 
-/// In which order the two recordings of a subject were given, as these rows and pairs of best effort tell. `AllocError` is answered
+/// In which order the two recordings of an inquiry were given, as these rows and pairs of best effort tell. `AllocError` is answered
 /// where there is no memory to compare the two.
 pub(crate) fn order_by(
     alloc: Global,
-    subject: Subject<'_>,
+    inquiry: Inquiry<'_>,
     rows: &[Explanation<'_>],
     best_effort: Ways,
 ) -> Result<Order, AllocError>
-    ensures { IfOk result (λ order. order ≡ order_spec.order_by (reader_side.arrived_value subject.entry.arrived) subject.entry.recording.now (map explanation.explanation_value rows.now) best_effort) }
+    ensures { IfOk result (λ order. order ≡ order_spec.order_by (reader_side.arrived_value inquiry.entry.arrived) inquiry.entry.recording.now (map explanation.explanation_value rows.now) best_effort) }
 {
-    let is_twice = is_twice(alloc, subject.arrived, subject.recording)?;
+    let is_twice = is_twice(alloc, inquiry.arrived, inquiry.recording)?;
     let rows = ways_of_rows(rows);
     Ok(Order {
         right: u128::from(rows.right) + u128::from(best_effort.right),

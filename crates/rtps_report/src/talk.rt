@@ -100,7 +100,7 @@ pub struct LeftOut<'a> {
 
 /// What is known of a recording, to say who does not talk.
 #[derive(Clone, Copy)]
-pub(crate) struct Heard<'r, 'a, 'o, 'b> {
+pub(crate) struct ReadRecording<'r, 'a, 'o, 'b> {
     pub(crate) datagrams: &'r [&'a [u8]],
     pub(crate) times: &'r Times,
     pub(crate) asked: &'r Asked<'r>,
@@ -248,16 +248,16 @@ fn is_left_out(talk: &Talk<'_>, asked: &Asked<'_>, found: Match, topic: &[u8]) -
 fn left_out_of<'a>(
     alloc: Global,
     talk: &Talk<'a>,
-    heard: &Heard<'_, 'a, '_, '_>,
+    read: &ReadRecording<'_, 'a, '_, '_>,
     matched: &[Match],
 ) -> Result<Vec<LeftOut<'a>>, Memory>
-    ensures { IfOk result (λ left. map talk_spec.left_out_value left.items ≡ map (talk_spec.left_out_of heard.now.directory.now.endpoints)
-        (filter (talk_spec.is_left_out_of talk.now.unfit talk.now.namings (rows.chosen_by (asked_spec.asked_value heard.now.asked.now) (recorded.node_in talk.now.who)) heard.now.directory.now.endpoints) matched.now)) }
+    ensures { IfOk result (λ left. map talk_spec.left_out_value left.items ≡ map (talk_spec.left_out_of read.now.directory.now.endpoints)
+        (filter (talk_spec.is_left_out_of talk.now.unfit talk.now.namings (rows.chosen_by (asked_spec.asked_value read.now.asked.now) (recorded.node_in talk.now.who)) read.now.directory.now.endpoints) matched.now)) }
 {
     let mut left = Vec::new(alloc);
     for found in matched {
-        let topic = topic_of(heard.directory, found.pair.writer);
-        if is_left_out(talk, heard.asked, *found, topic) {
+        let topic = topic_of(read.directory, found.pair.writer);
+        if is_left_out(talk, read.asked, *found, topic) {
             left.push(LeftOut {
                 topic,
                 pair: found.pair,
@@ -281,26 +281,26 @@ fn is_counted(talk: &Talk<'_>, asked: &Asked<'_>, found: Match, topic: &[u8]) ->
 fn counted_of<'a>(
     alloc: Global,
     talk: &Talk<'a>,
-    heard: &Heard<'_, 'a, '_, '_>,
+    read: &ReadRecording<'_, 'a, '_, '_>,
     matched: &[Match],
 ) -> Result<Vec<Counted<'a>>, Memory>
-    ensures { IfOk result (λ counted. (intake : intake_spec.Intake) (other : Option other_side.OtherRecording) → index_spec.IsIndexBy intake heard.now.index.now
-        → other_side.IsOtherSide other heard.now.other → talk_spec.AreCounted (asked_spec.asked_value heard.now.asked.now) other intake heard.now.directory.now.endpoints
-        (filter (talk_spec.is_counted_of talk.now.unfit talk.now.namings (rows.chosen_by (asked_spec.asked_value heard.now.asked.now) (recorded.node_in talk.now.who)) heard.now.directory.now.endpoints) matched.now)
+    ensures { IfOk result (λ counted. (intake : intake_spec.Intake) (other : Option other_side.OtherRecording) → index_spec.IsIndexBy intake read.now.index.now
+        → other_side.IsOtherSide other read.now.other → talk_spec.AreCounted (asked_spec.asked_value read.now.asked.now) other intake read.now.directory.now.endpoints
+        (filter (talk_spec.is_counted_of talk.now.unfit talk.now.namings (rows.chosen_by (asked_spec.asked_value read.now.asked.now) (recorded.node_in talk.now.who)) read.now.directory.now.endpoints) matched.now)
         (map best_efforts.counted_value counted.items)) }
 {
     let sides = Sides {
-        index: heard.index,
-        other: heard.other,
-        times: heard.times,
+        index: read.index,
+        other: read.other,
+        times: read.times,
     };
     let mut counted = Vec::new(alloc);
     for found in matched {
-        let topic = topic_of(heard.directory, found.pair.writer);
-        if is_counted(talk, heard.asked, *found, topic) {
+        let topic = topic_of(read.directory, found.pair.writer);
+        if is_counted(talk, read.asked, *found, topic) {
             let pair = found.pair;
-            let recorded = recorded_of(alloc, heard.index, pair, heard.asked.extent())?;
-            let arrived = arrived_of(alloc, &sides, pair, heard.asked.extent())?;
+            let recorded = recorded_of(alloc, read.index, pair, read.asked.extent())?;
+            let arrived = arrived_of(alloc, &sides, pair, read.asked.extent())?;
             counted.push(Counted {
                 topic,
                 pair,
@@ -326,21 +326,21 @@ fn left_of(index: &Index<'_>, guid: Guid, place: Option<Location>) -> Option<u64
 pub(crate) fn participants_of(
     alloc: Global,
     announced: &Announced<'_>,
-    heard: &Heard<'_, '_, '_, '_>,
+    read: &ReadRecording<'_, '_, '_, '_>,
     seen: Seen<'_>,
 ) -> Result<Vec<Participant>, Memory>
-    ensures { IfOk result (λ participants. (intake : intake_spec.Intake) → index_spec.IsIndexBy intake heard.now.index.now
+    ensures { IfOk result (λ participants. (intake : intake_spec.Intake) → index_spec.IsIndexBy intake read.now.index.now
         → participants_spec.AreJoined (placed.placed_in intake.announcing) seen.entry.joined.now
-        → stays.ArePresencesOf (map (λ datagram. datagram.now) heard.now.datagrams.now) heard.now.times.now.of_datagrams seen.entry.presences.now
+        → stays.ArePresencesOf (map (λ datagram. datagram.now) read.now.datagrams.now) read.now.times.now.of_datagrams seen.entry.presences.now
         → announcing.IsAnnouncedBy (intake_spec.acts_together intake.announcing) announced.now
         → participants.items
-        ≡ map (participants_spec.participant_told intake (map (λ datagram. datagram.now) heard.now.datagrams.now) heard.now.times.now) heard.now.directory.now.participants) }
+        ≡ map (participants_spec.participant_told intake (map (λ datagram. datagram.now) read.now.datagrams.now) read.now.times.now) read.now.directory.now.participants) }
 {
-    let end = heard.times.of_last_frame();
+    let end = read.times.of_last_frame();
     let mut participants = Vec::new(alloc);
-    for guid in &heard.directory.participants()? {
+    for guid in &read.directory.participants()? {
         let host = announced.host(*guid);
-        let left = left_of(heard.index, *guid, seen.joined.get(guid).copied());
+        let left = left_of(read.index, *guid, seen.joined.get(guid).copied());
         let latest = seen.presences.latest(guid.prefix);
         participants.push(Participant {
             guid: *guid,
@@ -357,13 +357,13 @@ pub(crate) fn participants_of(
 fn unfit_in<'a>(
     announced: &Announced<'a>,
     who: &Who<'_>,
-    heard: &Heard<'_, 'a, '_, '_>,
+    read: &ReadRecording<'_, 'a, '_, '_>,
 ) -> Result<Vec<Unmatched<'a>>, Memory>
     ensures { IfOk result (λ unfit. (traffic : silence.Traffic) → announcing.IsAnnouncedBy traffic.announcing announced.now
-        → map unmatched_spec.unmatched_value unfit.items ≡ talk_spec.unfit_in (rows.chosen_by (asked_spec.asked_value heard.now.asked.now) (recorded.node_in who.now)) traffic heard.now.directory.now.endpoints) }
+        → map unmatched_spec.unmatched_value unfit.items ≡ talk_spec.unfit_in (rows.chosen_by (asked_spec.asked_value read.now.asked.now) (recorded.node_in who.now)) traffic read.now.directory.now.endpoints) }
 {
-    let asked = heard.asked;
-    let mut unfit = unmatched_pairs(announced, heard.directory)?;
+    let asked = read.asked;
+    let mut unfit = unmatched_pairs(announced, read.directory)?;
     unfit.retain(|one| is_chosen(asked, who, one.writer.endpoint.topic, pair_of(one)));
     Ok(unfit)
 }
@@ -371,33 +371,33 @@ fn unfit_in<'a>(
 /// Who does not talk in a recording, of the topics that are asked for, by who knows whom. `Memory` is answered where what is kept cannot grow.
 pub(crate) fn talk_in<'a>(
     alloc: Global,
-    heard: &Heard<'_, 'a, '_, '_>,
+    read: &ReadRecording<'_, 'a, '_, '_>,
     acquaintance: Acquaintance<'_>,
 ) -> Result<Talk<'a>, Memory>
-    requires { acquaintance_spec.IsAcquaintanceOf (map (λ datagram. datagram.now) heard.now.datagrams.now) heard.now.times.now.of_datagrams acquaintance }
+    requires { acquaintance_spec.IsAcquaintanceOf (map (λ datagram. datagram.now) read.now.datagrams.now) read.now.times.now.of_datagrams acquaintance }
     ensures talks { IfOk result (λ talk. (other : Option other_side.OtherRecording)
-        → talk_spec.IsHeardIn (recorded_samples.intake_as Read (map (λ datagram. datagram.now) heard.now.datagrams.now)) other heard.now
-        → talk_spec.IsTalkOf (asked_spec.asked_value heard.now.asked.now) other (map (λ datagram. datagram.now) heard.now.datagrams.now)
-        heard.now.times.now (talk_spec.talk_value talk)) }
+        → talk_spec.IsReadIn (recorded_samples.intake_as Read (map (λ datagram. datagram.now) read.now.datagrams.now)) other read.now
+        → talk_spec.IsTalkOf (asked_spec.asked_value read.now.asked.now) other (map (λ datagram. datagram.now) read.now.datagrams.now)
+        read.now.times.now (talk_spec.talk_value talk)) }
     ensures kept { IfOk result (λ talk. (other : Option other_side.OtherRecording)
-        → talk_spec.IsHeardIn (recorded_samples.intake_as Read (map (λ datagram. datagram.now) heard.now.datagrams.now)) other heard.now
-        → talk_spec.IsKeptOf (asked_spec.asked_value heard.now.asked.now) (recorded_samples.intake_as Read (map (λ datagram. datagram.now) heard.now.datagrams.now))
-        (talk_spec.traffic_of (map (λ datagram. datagram.now) heard.now.datagrams.now)) heard.now.directory.now.endpoints talk) }
+        → talk_spec.IsReadIn (recorded_samples.intake_as Read (map (λ datagram. datagram.now) read.now.datagrams.now)) other read.now
+        → talk_spec.IsKeptOf (asked_spec.asked_value read.now.asked.now) (recorded_samples.intake_as Read (map (λ datagram. datagram.now) read.now.datagrams.now))
+        (talk_spec.traffic_of (map (λ datagram. datagram.now) read.now.datagrams.now)) read.now.directory.now.endpoints talk) }
 {
-    let announced = announced_in(alloc, heard.announcements)?;
+    let announced = announced_in(alloc, read.announcements)?;
     let Discovered {
         participants,
         not_told,
         lives,
-    } = discovered_in(alloc, &announced, heard, &acquaintance.known)?;
+    } = discovered_in(alloc, &announced, read, &acquaintance.known)?;
     let Acquaintance {
         namings,
         known: _,
         matches,
         times: _,
     } = acquaintance;
-    let who = who_of(alloc, heard.announcements, heard.index, heard.directory)?;
-    let unfit = unfit_in(&announced, &who, heard)?;
+    let who = who_of(alloc, read.announcements, read.index, read.directory)?;
+    let unfit = unfit_in(&announced, &who, read)?;
     let mut talk = Talk {
         unfit: unfit_of(alloc, &unfit)?,
         unmatched: Vec::new(alloc),
@@ -418,14 +418,14 @@ pub(crate) fn talk_in<'a>(
         lives,
         late: BTreeMap::new(alloc),
     };
-    let parted = parted_unfit(alloc, heard.index, unfit)?;
+    let parted = parted_unfit(alloc, read.index, unfit)?;
     talk.unmatched = parted.silent;
     talk.talking = parted.talking;
-    let matched = heard.directory.matched()?;
+    let matched = read.directory.matched()?;
     let judged = judged_pairs(alloc, &matched, &talk.talking)?;
     talk.late = late_among(alloc, &matches, &talk.lives, &judged)?;
-    talk.left_out = left_out_of(alloc, &talk, heard, &matched)?;
-    let mut counted = counted_of(alloc, &talk, heard, &matched)?;
+    talk.left_out = left_out_of(alloc, &talk, read, &matched)?;
+    let mut counted = counted_of(alloc, &talk, read, &matched)?;
     talk.best_effort_total = total_of(&counted);
     talk.ways = ways_of_counted(&counted);
     talk.held = held_among(alloc, &counted)?;

@@ -5,9 +5,6 @@ ghost use Rattle.rtps_text.specs.ReportText as report_text;
 ghost use Rattle.rtps_text.specs.ListText as list_text_spec;
 ghost use Rattle.rtps_text.specs.SampleText as sample_text_spec;
 ghost use Rattle.rtps_text.specs.ShowText as show_text_spec;
-ghost use Rattle.rtps_audit.specs.Index as index;
-ghost use Rattle.rtps_fragments.specs.RecordedSamples as recorded_samples;
-ghost use Rattle.rtps_fragments.specs.declared.fragments.Fragments.TheVariants.{Read};
 ghost use Rattle.rtps_report.specs.FullReport as full_report;
 ghost use Rattle.rtps_report.specs.ReaderSide as reader_side;
 ghost use Rattle.rtps_tool.specs.Commands as commands;
@@ -23,7 +20,7 @@ use rtps_check::{check_json, check_text};
 use rtps_ids::{Memory, SeqNum};
 use rtps_page::{Origin, page_text};
 use rtps_report::{
-    Asked, AskedAudit, Ending, Fragments, FullReport, Recording, Samples, Subject, Unwatched,
+    Asked, AskedAudit, Ending, Fragments, FullReport, Recording, Samples, Inquiry, Unwatched,
     Watch, report_on,
 };
 use rtps_text::{audit_text, json_text, list_text, sample_text, show_text, why_text};
@@ -176,13 +173,13 @@ fn text_of<'a, P: Watch + Follow>(
 {
     match &options.command {
         Command::Report(form, name, asked) => {
-            let subject = Subject {
+            let inquiry = Inquiry {
                 recording,
                 asked,
                 arrived,
             };
             let told_as = ToldAs { form: *form, name };
-            told(alloc, told_as, subject, watch)
+            told(alloc, told_as, inquiry, watch)
         }
         Command::Show(fragments) => show_text(alloc, recording, *fragments),
         Command::List(fragments) => list_text(alloc, recording, *fragments),
@@ -202,13 +199,13 @@ struct ToldAs<'a> {
 fn told<P: Watch + Follow>(
     alloc: Global,
     told_as: ToldAs<'_>,
-    subject: Subject<'_>,
+    inquiry: Inquiry<'_>,
     watch: &mut P,
 ) -> Result<(String, Ending), Memory>
-    ensures { IfOk result (λ answer. full_report.IsTold (commands.IsFormOf told_as.entry.form told_as.entry.name.now) (asked.asked_value subject.entry.asked.now) (reader_side.arrived_value subject.entry.arrived) subject.entry.recording.now (string_bytes answer.0) answer.1) }
+    ensures { IfOk result (λ answer. full_report.IsTold (commands.IsFormOf told_as.entry.form told_as.entry.name.now) (asked.asked_value inquiry.entry.asked.now) (reader_side.arrived_value inquiry.entry.arrived) inquiry.entry.recording.now (string_bytes answer.0) answer.1) }
 {
     let mut samples = Samples::none(alloc);
-    let report = report_on(alloc, subject, &mut samples, watch)?;
+    let report = report_on(alloc, inquiry, &mut samples, watch)?;
     watch.writing();
     let text = form_text(alloc, told_as, &report)?;
     Ok((text, report.ending))
@@ -216,7 +213,7 @@ fn told<P: Watch + Follow>(
 
 /// A report in a form.
 fn form_text(alloc: Global, told_as: ToldAs<'_>, report: &FullReport<'_>) -> Result<String, Memory>
-    requires { index.IsIndexBy (recorded_samples.intake_as Read report.now.recording.now.datagrams) report.now.index }
+    requires { full_report.IsIndexed report.now }
     ensures { IfOk result (λ text. commands.IsFormOf told_as.entry.form told_as.entry.name.now (asked.asked_value report.now.asked.now) report.now.recording.now (full_report.report_value report.now) (string_bytes text)) }
 {
     let text = match told_as.form {
@@ -230,7 +227,7 @@ fn form_text(alloc: Global, told_as: ToldAs<'_>, report: &FullReport<'_>) -> Res
 
 /// A report as a page, which says the name of its recording, and shows the text of `check` where scripts do not run.
 fn page_of(alloc: Global, name: &str, report: &FullReport<'_>) -> Result<String, Memory>
-    requires { index.IsIndexBy (recorded_samples.intake_as Read report.now.recording.now.datagrams) report.now.index }
+    requires { full_report.IsIndexed report.now }
     ensures { IfOk result (λ text. commands.IsPageForm name.now (asked.asked_value report.now.asked.now) report.now.recording.now (full_report.report_value report.now) (string_bytes text)) }
 {
     let plain = check_text(alloc, report)?;

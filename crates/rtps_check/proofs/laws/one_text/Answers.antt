@@ -75,8 +75,8 @@ text_by_once scope beside rows one other is also =
     ∙ sym also.is_text
 
 -- what a text is by: what rows are told by, what is told beside them, and the rows
-abbrev Told : Type 0
-Told = Scope × check_text.Beside × List explanation.ExplanationValue
+abbrev CheckFacts : Type 0
+CheckFacts = Scope × check_text.Beside × List explanation.ExplanationValue
 
 remedy_once : no_pair.HasOneNoPair → (asked : asked.AskedValue) (recording : recording.RecordingValue) (rows others : List Explanation) (one other : full_report.ReportValue) (text last : List ℕ) → one.talk ≡ other.talk
     → map explanation.explanation_value rows ≡ map explanation.explanation_value others → check_text.IsRemedyBy rows asked recording one text → check_text.IsRemedyBy others asked recording other last → text ≡ last
@@ -103,11 +103,11 @@ text_once unique asked recording one other text last same is also =
     let remedy : is.remedy ≡ also.remedy = remedy_once unique asked recording one.explained.rows.items other.explained.rows.items one other is.remedy also.remedy talk same.rows is.is_remedy also.is_remedy in
     let beside : check_text.beside_of asked recording one is.remedy (notes.talking_names is.talking) is.left_out ≡ check_text.beside_of asked recording other also.remedy (notes.talking_names also.talking) also.left_out =
     λ i. record (check_text.beside_of asked recording one is.remedy (notes.talking_names is.talking) is.left_out) { lost = same.lost i; remedy = remedy i; events = events.events_by asked (talk i) (same.lost i) (same.rows i); facts = facts i; side = side i; talking = notes.talking_names (talking i); left_out = left_out i; talk = talk i; ending = same.ending i } in
-    let told : Told = (note_facts.scope_of asked recording one, check_text.beside_of asked recording one is.remedy (notes.talking_names is.talking) is.left_out, map explanation.explanation_value is.rows) in
-    let told' : Told = (note_facts.scope_of asked recording other, check_text.beside_of asked recording other also.remedy (notes.talking_names also.talking) also.left_out, map explanation.explanation_value also.rows) in
+    let told : CheckFacts = (note_facts.scope_of asked recording one, check_text.beside_of asked recording one is.remedy (notes.talking_names is.talking) is.left_out, map explanation.explanation_value is.rows) in
+    let told' : CheckFacts = (note_facts.scope_of asked recording other, check_text.beside_of asked recording other also.remedy (notes.talking_names also.talking) also.left_out, map explanation.explanation_value also.rows) in
     let path : told ≡ told' = λ i. (scope i, beside i, rows i) in
     text_by_once (note_facts.scope_of asked recording other) (check_text.beside_of asked recording other also.remedy (notes.talking_names also.talking) also.left_out) (map explanation.explanation_value also.rows) text last
-    (subst (λ (by : Told). check_text.IsTextBy by.0 by.1 by.2 text) path is.is_text) also.is_text
+    (subst (λ (by : CheckFacts). check_text.IsTextBy by.0 by.1 by.2 text) path is.is_text) also.is_text
 
 pub returns : goal.returns
 returns c = λ asked theirs recording one other ending last is also.

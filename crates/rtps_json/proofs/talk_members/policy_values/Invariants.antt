@@ -1,7 +1,7 @@
 use Rattle.std.proofs.Common.{◌≡◌, map, take}
 use Rattle.json.specs.Json.{string}
 use Rattle.rtps_lines.specs.PolicyValues.{value_text}
-use Rattle.rtps_lines.specs.declared.policy_values.Naming.TheVariants.{Dds}
+use Rattle.rtps_lines.specs.declared.policy_values.NameStyle.TheVariants.{Dds}
 use Rattle.rtps_policies.specs.Fitting.{profile_value}
 use Rattle.rtps_json.specs.Values.{items_json}
 use Rattle.rtps_json.proofs.talk_members.policy_values.Given as goal

@@ -26,8 +26,8 @@ talk_in-requires c =
 
 pub returns : goal.returns
 returns c = λ theirs held.
-    let recording = c.args.subject.recording.now in
-    let asked = asked.asked_value c.args.subject.asked.now in
+    let recording = c.args.inquiry.recording.now in
+    let asked = asked.asked_value c.args.inquiry.asked.now in
     let indexed = c.in_ok-indexed.indexed in
     let talk = c.in_ok-talk.talk in
     let first : octets_in c.deref.result.now ≡ recording.datagrams = ap octets_in c.deref.ensures.value ∙ c.in_ok-datagrams.ensures in

@@ -15,9 +15,9 @@ use Rattle.rtps_report.proofs.talk.counted_of.Goals.{then-is_counted+in_ok-recor
 pub loop-found-preserved : goal.loop-found-preserved
 loop-found-preserved c = λ intake other index beside.
     let talk = c.args.talk.now in
-    let asked = asked.asked_value c.args.heard.now.asked.now in
+    let asked = asked.asked_value c.args.read.now.asked.now in
     let chosen = rows.chosen_by asked (who_recorded.node_in talk.who) in
-    let entries = c.args.heard.now.directory.now.endpoints in
+    let entries = c.args.read.now.directory.now.endpoints in
     let test = talk_spec.is_counted_of talk.unfit talk.namings chosen entries in
     let by_topic = counted_by_topic talk.unfit talk.namings chosen _ c.topic_of-topic.result.now _ c.is_counted.result c.topic_of-topic.ensures c.is_counted.ensures in
     elim c.if-is_counted.branch [
@@ -29,7 +29,7 @@ loop-found-preserved c = λ intake other index beside.
             of_pair = refl;
             recorded = subst (λ (extent : Extent). evidence_recorded.IsRecordedBy extent.in_spans extent.from _ intake w.in_ok-recorded.recorded) w.extent.ensures (w.in_ok-recorded.ensures intake index);
             arrived = subst (λ (extent : Extent). evidence_recorded.IsArrivedBy extent.in_spans extent.from other _ intake w.in_ok-arrived.arrived) w.extent-then-is_counted.ensures
-                (w.in_ok-arrived.ensures intake (record { other = other; times = c.args.heard.now.times.now.of_datagrams }) (record { index = index; other = beside; times = refl }));
+                (w.in_ok-arrived.ensures intake (record { other = other; times = c.args.read.now.times.now.of_datagrams }) (record { index = index; other = beside; times = refl }));
           })
           (c.loop-found.invariant intake other index beside))
       | else-is_counted w ↦
@@ -39,8 +39,8 @@ loop-found-preserved c = λ intake other index beside.
 
 pub returns : goal.returns
 returns c = λ intake other index beside.
-    let asked = asked.asked_value c.args.heard.now.asked.now in
-    let entries = c.args.heard.now.directory.now.endpoints in
+    let asked = asked.asked_value c.args.read.now.asked.now in
+    let entries = c.args.read.now.directory.now.endpoints in
     let test = talk_spec.is_counted_of c.args.talk.now.unfit c.args.talk.now.namings (rows.chosen_by asked (who_recorded.node_in c.args.talk.now.who)) entries in
     subst (λ (those : List Match). talk_spec.AreCounted asked other intake entries (filter test those) (map best_efforts.counted_value c.loop-found.counted.items))
     (take_all c.loop-found.found-index c.args.matched.now c.loop-found-test.false) (c.loop-found.invariant intake other index beside)

@@ -13,9 +13,9 @@ use Rattle.rtps_report.proofs.talk.left_out_of.Goals.{then-is_left_out+in_ok-pus
 pub loop-found-preserved : goal.loop-found-preserved
 loop-found-preserved c =
     let talk = c.args.talk.now in
-    let asked = asked.asked_value c.args.heard.now.asked.now in
+    let asked = asked.asked_value c.args.read.now.asked.now in
     let chosen = rows.chosen_by asked (recorded.node_in talk.who) in
-    let entries = c.args.heard.now.directory.now.endpoints in
+    let entries = c.args.read.now.directory.now.endpoints in
     let test = talk_spec.is_left_out_of talk.unfit talk.namings chosen entries in
     let nobody : Guid = record { prefix = record { 0 = [] }; entity = record { 0 = [] } } in
     let none : Match = record { pair = record { writer = nobody; reader = nobody }; reliable = false } in

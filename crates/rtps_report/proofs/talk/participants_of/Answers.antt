@@ -7,9 +7,9 @@ use Rattle.rtps_report.proofs.talk.participants_of.Goals as goal
 
 pub loop-guid-preserved : goal.loop-guid-preserved
 loop-guid-preserved c = λ intake index joined presences announced.
-    let heard = c.args.heard.now in
-    let recording = map (λ (datagram : Bor (List ℕ)). datagram.now) heard.datagrams.now in
-    let times = heard.times.now in
+    let read = c.args.read.now in
+    let recording = map (λ (datagram : Bor (List ℕ)). datagram.now) read.datagrams.now in
+    let times = read.times.now in
     let left = leaves_then intake c.args.seen.joined.now _ c.copied.result c.left_of-left.result joined
     (c.copied.ensures ∙ c.get.ensures.value) (c.left_of-left.ensures intake index) in
     participants_more (participants.participant_told intake recording times) c.deref-guid-items.result.now c.loop-guid.participants.items c.push.new.self.items c.loop-guid.guid-index _ _
@@ -21,7 +21,7 @@ loop-guid-preserved c = λ intake index joined presences announced.
 
 pub returns : goal.returns
 returns c = λ intake index joined presences announced.
-    let heard = c.args.heard.now in
+    let read = c.args.read.now in
     c.loop-guid.invariant intake index joined presences announced
-    ∙ ap (map (participants.participant_told intake (map (λ (datagram : Bor (List ℕ)). datagram.now) heard.datagrams.now) heard.times.now))
+    ∙ ap (map (participants.participant_told intake (map (λ (datagram : Bor (List ℕ)). datagram.now) read.datagrams.now) read.times.now))
     (take_all c.loop-guid.guid-index c.deref-guid-items.result.now c.loop-guid-test.false ∙ c.deref-guid-items.ensures.value ∙ c.in_ok-participants.ensures)

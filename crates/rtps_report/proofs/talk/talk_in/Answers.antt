@@ -25,14 +25,14 @@ use Rattle.rtps_report.proofs.talk.talk_in.Goals as goal
 
 pub returns-clause-talks : goal.returns-clause-talks
 returns-clause-talks c = λ other is.
-    let heard = c.args.heard.now in
-    let asked = asked.asked_value heard.asked.now in
-    let recording = map (λ (datagram : Bor (List ℕ)). datagram.now) heard.datagrams.now in
+    let read = c.args.read.now in
+    let asked = asked.asked_value read.asked.now in
+    let recording = map (λ (datagram : Bor (List ℕ)). datagram.now) read.datagrams.now in
     let intake = recorded_samples.intake_as Fragments.Read recording in
     let traffic = talk_spec.traffic_of recording in
-    let entries = heard.directory.now.endpoints in
+    let entries = read.directory.now.endpoints in
     let unfit = c.in_ok-unfit.unfit.items in
-    let announced = heard_announced intake heard.announcements.now c.in_ok-announced.announced is.announcements c.in_ok-announced.ensures in
+    let announced = heard_announced intake read.announcements.now c.in_ok-announced.announced is.announcements c.in_ok-announced.ensures in
     let who = c.in_ok-who.ensures intake is.index is.announcements in
     let choice = choice_kept asked intake entries c.in_ok-who.who (node_is (ends.recorded_in intake entries) c.in_ok-who.who who) in
     let same = c.in_ok-unfit.ensures traffic announced ∙ ap (λ (chosen : rows.Choice). talk_spec.unfit_in chosen traffic entries) choice in
@@ -61,7 +61,7 @@ returns-clause-talks c = λ other is.
       late = c.in_ok-talk.field-0;
     } in
     let lives = c.in_ok-participants.field-0.lives.items in
-    let acts = talk_spec.acts_of_matching intake recording heard.times.now.of_datagrams in
+    let acts = talk_spec.acts_of_matching intake recording read.times.now.of_datagrams in
     let judged : c.deref-5.result.now ≡ talk_spec.judged_pairs (matching.matches_among (directory.settled_in entries)) (map unmatched.unmatched_value talk.talking.items) =
     c.deref-5.ensures.value ∙ c.in_ok-judged.ensures
     ∙ ap (λ (matched : List Match). talk_spec.judged_pairs matched (map unmatched.unmatched_value c.deref-3.result.now)) (c.deref-2.ensures.value ∙ c.in_ok-matched.ensures)
@@ -69,7 +69,7 @@ returns-clause-talks c = λ other is.
     let kept : talk_spec.IsKeptOf asked intake traffic entries talk =
     kept_is asked intake traffic entries talk (map unmatched.unmatched_value unfit) same
     (subst (λ (items : List Unmatched). talk_spec.AreUnfit (map unmatched.unmatched_value items) c.in_ok-unfit_of.field-0) c.deref.ensures.value c.in_ok-unfit_of.ensures) c.requires.namings parted.1 who in
-    talk_is asked other recording heard.times.now heard.directory.now talk counted is.directory announced who kept
+    talk_is asked other recording read.times.now read.directory.now talk counted is.directory announced who kept
     (parted.0 ∙ ap (filter (λ (one : unmatched.UnmatchedValue). not (talk_spec.talks intake (unmatched.pair_of one)))) same)
     (c.in_ok-talk-2.ensures ∙ ap (λ (those : List Match). map (talk_spec.left_out_of entries) (filter (talk_spec.is_left_out_of talk.unfit talk.namings (rows.chosen_by asked (recorded.node_in talk.who)) entries) those)) (c.deref-6.ensures.value ∙ c.in_ok-matched.ensures)
     ∙ ap (λ (chosen : rows.Choice). map (talk_spec.left_out_of entries) (filter (talk_spec.is_left_out_of talk.unfit talk.namings chosen entries) (matching.matches_among (directory.settled_in entries)))) choice)
@@ -91,13 +91,13 @@ returns-clause-talks c = λ other is.
 
 pub returns-clause-kept : goal.returns-clause-kept
 returns-clause-kept c = λ other is.
-    let heard = c.args.heard.now in
-    let asked = asked.asked_value heard.asked.now in
-    let recording = map (λ (datagram : Bor (List ℕ)). datagram.now) heard.datagrams.now in
+    let read = c.args.read.now in
+    let asked = asked.asked_value read.asked.now in
+    let recording = map (λ (datagram : Bor (List ℕ)). datagram.now) read.datagrams.now in
     let intake = recorded_samples.intake_as Fragments.Read recording in
     let traffic = talk_spec.traffic_of recording in
-    let entries = heard.directory.now.endpoints in
-    let announced = heard_announced intake heard.announcements.now c.in_ok-announced.announced is.announcements c.in_ok-announced.ensures in
+    let entries = read.directory.now.endpoints in
+    let announced = heard_announced intake read.announcements.now c.in_ok-announced.announced is.announcements c.in_ok-announced.ensures in
     let who = c.in_ok-who.ensures intake is.index is.announcements in
     let choice = choice_kept asked intake entries c.in_ok-who.who (node_is (ends.recorded_in intake entries) c.in_ok-who.who who) in
     kept_is asked intake traffic entries _ (map unmatched.unmatched_value c.in_ok-unfit.unfit.items)

@@ -11,7 +11,7 @@ use Rattle.rtps_report.proofs.talk.unfit_in.Goals as goal
 
 pub returns : goal.returns
 returns c = λ traffic announced.
-    let chosen = rows.chosen_by (asked.asked_value c.args.heard.now.asked.now) (recorded.node_in c.args.who.now) in
+    let chosen = rows.chosen_by (asked.asked_value c.args.read.now.asked.now) (recorded.node_in c.args.who.now) in
     let found = c.in_ok-unfit.unfit.items in
     let kept : c.retain.new.self.items ≡ filter (λ (one : Unmatched). talk.is_asked chosen (unmatched.unmatched_value one)) found =
     filter_same _ (λ (one : Unmatched). talk.is_asked chosen (unmatched.unmatched_value one)) _

@@ -25,6 +25,6 @@ returns g c =
     record {
       report = full_report.report_value report;
       is_report = is.is_report;
-      is_text = subst (λ (recording : recording.RecordingValue). commands.IsFormOf told_as.form told_as.name.now (asked.asked_value c.args.subject.asked.now) recording (full_report.report_value report) text) is.records by_asked;
+      is_text = subst (λ (recording : recording.RecordingValue). commands.IsFormOf told_as.form told_as.name.now (asked.asked_value c.args.inquiry.asked.now) recording (full_report.report_value report) text) is.records by_asked;
       ends = refl;
     }
