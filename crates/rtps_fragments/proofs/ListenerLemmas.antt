@@ -13,7 +13,7 @@ use Rattle.std.specs.Option.{option_map}
 use Rattle.std.proofs.lemmas.List.Elements.{All-append, All-get_or, All-same}
 use Rattle.std.proofs.lemmas.List.Folds.{list_any_at, list_any_more}
 use Rattle.rtps_receiver.specs.declared.speech.Audience.{Audience}
-use Rattle.rtps_fragments.specs.Heard as heard
+use Rattle.rtps_fragments.specs.Heard as heard_spec
 use Rattle.rtps_fragments.specs.Listeners as listeners_spec
 use Rattle.rtps_fragments.specs.Making as making
 use Rattle.rtps_wire.specs.declared.data_frag.Shape.{Shape}
@@ -55,7 +55,7 @@ taken_more xs i x lt is = let more : i + 1 ≡ suc i = omega arith in ap (λ n. 
 -- ---- listeners
 
 -- the first one
-pub are_one : (last : ℕ) (one : Listener) (listeners : List Listener) → listeners ≡ one ∷ [] → one.audience ≡ listeners_spec.everyone → heard.IsHeard last [] one.heard → one.told ≡ 0 → making.AreListeners last listeners_spec.silence listeners_spec.silence listeners
+pub are_one : (last : ℕ) (one : Listener) (listeners : List Listener) → listeners ≡ one ∷ [] → one.audience ≡ listeners_spec.everyone → heard_spec.IsHeard last [] one.heard → one.told ≡ 0 → making.AreListeners last listeners_spec.silence listeners_spec.silence listeners
 are_one last one listeners is audience came told = grind (arith, nat_tests)
 
 -- the audiences of copies with one more
