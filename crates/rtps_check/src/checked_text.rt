@@ -100,7 +100,11 @@ fn push_clean(text: &mut String, side: Option<SideFacts>, totals: &Totals) -> Re
     text.push_str("\n")
 }
 
-fn push_first(text: &mut String, totals: &Totals, told: &CheckFacts<'_, '_>) -> Result<(), AllocError>
+fn push_first(
+    text: &mut String,
+    totals: &Totals,
+    told: &CheckFacts<'_, '_>,
+) -> Result<(), AllocError>
     ensures { OnOk result (string_bytes text.new ≡ string_bytes text.old ++ check_text_spec.first_lines totals.now (check_text_spec.beside_value told.now)) }
 {
     if totals.pairs == 0 {

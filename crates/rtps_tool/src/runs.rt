@@ -20,7 +20,7 @@ use rtps_check::{check_json, check_text};
 use rtps_ids::{Memory, SeqNum};
 use rtps_page::{Origin, page_text};
 use rtps_report::{
-    Asked, AskedAudit, Ending, Fragments, FullReport, Recording, Samples, Inquiry, Unwatched,
+    Asked, AskedAudit, Ending, Fragments, FullReport, Inquiry, Recording, Samples, Unwatched,
     Watch, report_on,
 };
 use rtps_text::{audit_text, json_text, list_text, sample_text, show_text, why_text};
