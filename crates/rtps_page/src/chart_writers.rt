@@ -1,17 +1,18 @@
-ghost use Rattle.std.specs.Prelude.{◌≡◌, ◌++◌, ◌∷◌, codes, map, IfOk, None, OnOk};
+ghost use Rattle.std.specs.Prelude.{◌≡◌, ◌++◌, ◌∷◌, codes, flat_map, map, IfOk, None, OnOk};
 ghost use Rattle.json.specs.Token.{key};
 ghost use Rattle.json.specs.Tree.{json_tokens};
 ghost use Rattle.rtps_audit.specs.Index as index_spec;
 ghost use Rattle.rtps_audit.specs.Intake as intake;
 ghost use Rattle.rtps_audit.specs.Placed as placed;
 ghost use Rattle.rtps_json.specs.JsonText as json_text;
+ghost use Rattle.rtps_page.specs.ChartEntries as chart_entries;
 ghost use Rattle.rtps_page.specs.ChartRoom as chart_room;
 ghost use Rattle.rtps_page.specs.Page as page;
 
 use crate::chart_entries::push_entries;
 use crate::chart_room::is_last;
 use json::Writer;
-use rtps_audit::Index;
+use rtps_audit::{Index, Placed};
 use rtps_discovery::Pair;
 use rtps_ids::Guid;
 use rtps_json::push_guid;
@@ -32,6 +33,24 @@ pub(crate) fn writers_of(alloc: Global, pairs: &[Pair]) -> Result<Vec<Guid>, All
     Ok(writers)
 }
 
+/// Appends the entries of those of these acts that a writer says.
+fn push_acts(
+    writer: &mut Writer,
+    text: &mut String,
+    acts: &[Placed<'_>],
+    guid: Guid,
+) -> Result<(), AllocError>
+    ensures tokens { OnOk result (writer.new.tokens ≡ writer.old.tokens ++ flat_map json_tokens (chart_entries.entries_by guid (map placed.placed_value acts.now))) }
+    ensures before { writer.new.before ≡ writer.old.before }
+{
+    for placed in acts {
+        if placed.act.spoken_by(guid) {
+            push_entries(writer, text, placed)?;
+        }
+    }
+    Ok(())
+}
+
 fn push_writer(
     writer: &mut Writer,
     text: &mut String,
@@ -42,17 +61,12 @@ fn push_writer(
         → OnOk result (writer.new.tokens ≡ writer.old.tokens ++ json_tokens (page.writer_json (placed.placed_in intake.acts) guid)) }
     ensures before { writer.new.before ≡ writer.old.before }
 {
-    let acts = index.acts_of(guid);
     writer.begin_object()?;
     writer.key("guid")?;
     push_guid(writer, text, guid)?;
     writer.key("acts")?;
     writer.begin_array()?;
-    for placed in acts {
-        if placed.act.spoken_by(guid) {
-            push_entries(writer, text, placed)?;
-        }
-    }
+    push_acts(writer, text, index.acts_of(guid), guid)?;
     writer.end_array()?;
     writer.end_object()
 }
