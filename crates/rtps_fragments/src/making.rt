@@ -7,6 +7,7 @@ ghost use Rattle.rtps_fragments.specs.Samples as samples;
 ghost use Rattle.rtps_fragments.specs.ToldSamples as told_samples;
 ghost use Rattle.rtps_fragments.specs.declared.piece.SampleKey.{SampleKey as SampleKeyValue};
 
+use crate::announcements::is_built_in;
 use crate::heard::Heard;
 use crate::piece::{SampleKey, SentFragments};
 use crate::told_sample::ToldSample;
@@ -76,5 +77,29 @@ impl<'a> Makings<'a> {
         let whole = heard.tell(arena, sent, told)?;
         self.kept.insert(sent.key, heard)?;
         Ok(whole)
+    }
+
+    /// The same, where the samples of built-in writers alone are appended.
+    pub(crate) fn note(
+        &mut self,
+        arena: &'a Bump,
+        sent: &SentFragments<'a>,
+        told: &mut Vec<ToldSample<'a>>,
+    ) -> Result<bool, Memory>
+        requires { told_samples.IsSent sent.now }
+        ensures here { OnOk result ((came : List (ℕ × List ℕ)) → making.HasCame sent.now.key came (get told_samples.sample_cmp self.old.kept sent.now.key)
+            → making.HasCame sent.now.key (came ++ (told_samples.sent_value sent.now).came) (get told_samples.sample_cmp self.new.kept sent.now.key)) }
+        ensures others { OnOk result ((other : SampleKeyValue) → is_eq (told_samples.sample_cmp sent.now.key other) ≡ false
+            → get told_samples.sample_cmp self.new.kept other ≡ get told_samples.sample_cmp self.old.kept other) }
+        ensures told { OnOk result ((came : List (ℕ × List ℕ)) → making.HasCame sent.now.key came (get told_samples.sample_cmp self.old.kept sent.now.key)
+            → map told_samples.told_value told.new.items ≡ map told_samples.told_value told.old.items ++ told_samples.noted_by_sent (told_samples.sent_value sent.now) came) }
+        ensures whole { IfOk result (λ whole. (came : List (ℕ × List ℕ)) → making.HasCame sent.now.key came (get told_samples.sample_cmp self.old.kept sent.now.key)
+            → whole ≡ samples.has_sample (data_frag.last_fragment (told_samples.shape_of sent.now.key)) (came ++ (told_samples.sent_value sent.now).came)) }
+    {
+        if is_built_in(sent.key.writer.entity) {
+            self.tell(arena, sent, told)
+        } else {
+            self.take(sent)
+        }
     }
 }
