@@ -1,20 +1,15 @@
-use Rattle.std.proofs.lemmas.Bool.Decides.{nat_tests}
 use Rattle.std.proofs.Common.{◌≡◌, ◌++◌, ◌∷◌, [], ◌∙◌, List, ap, append_assoc, arith, map, subst, sym}
-use Rattle.std.specs.Prelude.{OnOk, Result}
 use Rattle.std.proofs.lemmas.List.{map-append}
-use Rattle.rtps_ids.specs.declared.memory.Memory.{Memory}
 use Rattle.rtps_receiver.specs.Values as values
 use Rattle.rtps_audit.specs.Placed as placed_spec
 use Rattle.rtps_fragments.specs.Hearing as hearing_spec
 use Rattle.rtps_fragments.specs.SampleActs as sample_acts
+use Rattle.rtps_fragments.proofs.OkLemmas.{on_ok}
 use Rattle.rtps_fragments.proofs.ViewLemmas.{heard_behind-more, pieces_at}
 use Rattle.rtps_fragments.proofs.hearing.Hearing.hear.Goals as goal
 
-weaker : {X : Type 0} (result : Result X Memory) (P Q : Type 0) → (P → Q) → OnOk result P → OnOk result Q
-weaker result P Q h h2 = grind (arith, nat_tests)
-
 pub returns-clause-heard : goal.returns-clause-heard
-returns-clause-heard c = weaker c.hear_fragments.result _ _ (λ heard acts is.
+returns-clause-heard c = on_ok c.hear_fragments.result _ _ c.hear_fragments.ensures.heard (λ heard acts is.
     let reader = c.args.self.now.reader in
     let one = placed_spec.placed_value c.args.placed.now in
     let told = placed_spec.placed_at one.datagram (sample_acts.samples_told reader (pieces_at acts) one.act (hearing_spec.piece_in one.act.body)) in
@@ -26,4 +21,4 @@ returns-clause-heard c = weaker c.hear_fragments.result _ _ (λ heard acts is.
       own = c.hear_fragments.ensures.reader;
       makings = subst (λ ps. hearing_spec.HaveCome reader ps c.hear_fragments.new.self.makings) (sym (map-append (λ (at : placed_spec.PlacedValue). hearing_spec.with_piece at.act) acts (one ∷ []))) kept;
       acts = grown ∙ ap (λ xs. xs ++ told) with_one ∙ append_assoc (hearing_spec.heard_of reader acts) (one ∷ []) told ∙ sym (heard_behind-more reader [] acts one);
-    }) c.hear_fragments.ensures.heard
+    })

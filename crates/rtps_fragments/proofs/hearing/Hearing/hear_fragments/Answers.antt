@@ -1,7 +1,4 @@
-use Rattle.std.proofs.lemmas.Bool.Decides.{nat_tests}
 use Rattle.std.proofs.Common.{◌≡◌, ◌++◌, ◌∷◌, [], ◌∙◌, List, Bool, true, false, ap, arith, map, subst, sym}
-use Rattle.std.specs.Prelude.{OnOk, Result, not}
-use Rattle.rtps_ids.specs.declared.memory.Memory.{Memory}
 use Rattle.rtps_receiver.specs.Values as values
 use Rattle.rtps_audit.specs.Placed as placed_spec
 use Rattle.rtps_fragments.specs.Hearing as hearing_spec
@@ -10,14 +7,12 @@ use Rattle.rtps_fragments.specs.ToldSamples as told_samples
 use Rattle.rtps_fragments.specs.declared.told_sample.ToldSample.{ToldSample}
 use Rattle.rtps_fragments.proofs.MakingLemmas.{makings_more, same_came}
 use Rattle.rtps_fragments.proofs.MergingLemmas.{map_map}
+use Rattle.rtps_fragments.proofs.OkLemmas.{on_ok}
 use Rattle.rtps_fragments.proofs.ViewLemmas.{hears_more}
 use Rattle.rtps_fragments.proofs.hearing.Hearing.hear_fragments.Goals as goal
 
-weaker : {X : Type 0} (result : Result X Memory) (P Q : Type 0) → (P → Q) → OnOk result P → OnOk result Q
-weaker result P Q h h2 = grind (arith, nat_tests)
-
 pub returns-clause-heard : goal.returns-clause-heard
-returns-clause-heard c = weaker c.push_told.result _ _ (λ pushed before come.
+returns-clause-heard c = on_ok c.push_told.result _ _ c.push_told.ensures.acts (λ pushed before come.
     let reader = c.args.self.now.reader in
     let act = values.spoken_value c.args.placed.now.act in
     let sent = told_samples.sent_value c.in-Some.sent in
@@ -31,4 +26,4 @@ returns-clause-heard c = weaker c.push_told.result _ _ (λ pushed before come.
       subst (hearing_spec.HaveCome reader (before ++ hearing_spec.with_piece act ∷ [])) (sym c.push_told.ensures.makings) (same_came _ _ c.tell.new.self more.came kept),
       pushed
           ∙ ap (λ acts. map placed_spec.placed_value c.args.self.now.acts.items ++ placed_spec.placed_at c.args.placed.now.datagram acts) (sym (map_map made told_samples.told_value c.deref.result.now) ∙ ap (map made) items ∙ more.told),
-    )) c.push_told.ensures.acts
+    ))
