@@ -83,12 +83,7 @@ fn sent_by<'a>(place: usize, act: &Spoken<'a>) -> Option<SentFragments<'a>>
 }
 
 /// A sample that a DATA_FRAG of this number tells a reader, as a DATA_FRAG for it alone.
-fn told_act<'a>(
-    reader: Guid,
-    act: &Spoken<'a>,
-    number: SeqNum,
-    told: &ToldSample<'a>,
-) -> Spoken<'a>
+fn told_act<'a>(reader: Guid, act: &Spoken<'a>, number: SeqNum, told: &ToldSample<'a>) -> Spoken<'a>
     ensures { values.spoken_value result ≡ sample_acts.sample_act reader (values.spoken_value act.now) number (told_samples.told_value told.now).payload }
 {
     let fragment = FragmentBody {
@@ -147,7 +142,7 @@ impl<'a> Hearing<'a> {
         ensures heard { OnOk result ((before : List sample_acts.PieceAct) → hearing_spec.HaveCome self.old.reader before self.old.makings
             → hearing_spec.HaveCome self.old.reader (before ++ hearing_spec.with_piece (values.spoken_value placed.now.act) ∷ []) self.new.makings
             × (map placed_spec.placed_value self.new.acts.items ≡ map placed_spec.placed_value self.old.acts.items
-                ++ placed_spec.placed_at placed.now.datagram (sample_acts.samples_told self.old.reader before (values.spoken_value placed.now.act) (hearing_spec.piece_in (values.spoken_value placed.now.act).body)))) }
+            ++ placed_spec.placed_at placed.now.datagram (sample_acts.samples_told self.old.reader before (values.spoken_value placed.now.act) (hearing_spec.piece_in (values.spoken_value placed.now.act).body)))) }
     {
         if !placed.act.heard_by(self.reader) {
             return Ok(());
