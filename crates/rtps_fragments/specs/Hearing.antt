@@ -2,7 +2,7 @@
 -- "DataFrag". own: an act has its fragments itself, so what a reader hears is found of the acts alone, for any reader.
 use Rattle.std.specs.Prelude.{ℕ, Bool, false, ◌≡◌, ◌&&◌, if◌then◌else◌, nat_le, is_some, List, [], ◌∷◌, ◌++◌, length, map, Option, Some, None}
 use Rattle.std.specs.Int.{div_ceil}
-use Rattle.std.specs.List.{filter_map}
+use Rattle.std.specs.List.{filter_map, list_any}
 use Rattle.rtps_ids.specs.declared.identity.Guid.{Guid}
 use Rattle.rtps_wire.specs.DataFrag as data_frag
 use Rattle.rtps_receiver.specs.Values as receiver_values
@@ -52,6 +52,10 @@ sends_fragments (receiver_values.ActBodyValue.Heartbeat value) = false
 sends_fragments (receiver_values.ActBodyValue.AckNack value) = false
 sends_fragments (receiver_values.ActBodyValue.Gap value) = false
 sends_fragments (receiver_values.ActBodyValue.NackFrag value) = false
+
+-- some of these acts does
+abbrev pub have_fragments : List placed.PlacedValue → Bool
+have_fragments acts = list_any (λ at. sends_fragments at.act.body) acts
 
 -- ---- what a reader hears
 

@@ -1,5 +1,4 @@
 ghost use Rattle.std.specs.Prelude.{◌≡◌, ◌++◌, ◌∷◌, [], map, IfOk, List, MatchOption, None, OnOk};
-ghost use Rattle.std.specs.List.{list_any};
 ghost use Rattle.rtps_receiver.specs.Values as values;
 ghost use Rattle.rtps_audit.specs.Placed as placed_spec;
 ghost use Rattle.rtps_audit.specs.Said as said_spec;
@@ -40,9 +39,9 @@ fn sends_fragments(act: &Spoken<'_>) -> bool
     }
 }
 
-/// Whether some of these acts does.
-fn have_fragments(acts: &[Placed<'_>]) -> bool
-    ensures { result ≡ list_any (λ at. hearing_spec.sends_fragments at.act.body) (map placed_spec.placed_value acts.now) }
+/// Whether some of these acts sends fragments.
+pub fn have_fragments(acts: &[Placed<'_>]) -> bool
+    ensures { result ≡ hearing_spec.have_fragments (map placed_spec.placed_value acts.now) }
 {
     for placed in acts {
         if sends_fragments(&placed.act) {
@@ -83,12 +82,7 @@ fn sent_by<'a>(place: usize, act: &Spoken<'a>) -> Option<SentFragments<'a>>
 }
 
 /// A sample that a DATA_FRAG of this number tells a reader, as a DATA_FRAG for it alone.
-fn told_act<'a>(
-    reader: Guid,
-    act: &Spoken<'a>,
-    number: SeqNum,
-    told: &ToldSample<'a>,
-) -> Spoken<'a>
+fn told_act<'a>(reader: Guid, act: &Spoken<'a>, number: SeqNum, told: &ToldSample<'a>) -> Spoken<'a>
     ensures { values.spoken_value result ≡ sample_acts.sample_act reader (values.spoken_value act.now) number (told_samples.told_value told.now).payload }
 {
     let fragment = FragmentBody {
@@ -147,7 +141,7 @@ impl<'a> Hearing<'a> {
         ensures heard { OnOk result ((before : List sample_acts.PieceAct) → hearing_spec.HaveCome self.old.reader before self.old.makings
             → hearing_spec.HaveCome self.old.reader (before ++ hearing_spec.with_piece (values.spoken_value placed.now.act) ∷ []) self.new.makings
             × (map placed_spec.placed_value self.new.acts.items ≡ map placed_spec.placed_value self.old.acts.items
-                ++ placed_spec.placed_at placed.now.datagram (sample_acts.samples_told self.old.reader before (values.spoken_value placed.now.act) (hearing_spec.piece_in (values.spoken_value placed.now.act).body)))) }
+            ++ placed_spec.placed_at placed.now.datagram (sample_acts.samples_told self.old.reader before (values.spoken_value placed.now.act) (hearing_spec.piece_in (values.spoken_value placed.now.act).body)))) }
     {
         if !placed.act.heard_by(self.reader) {
             return Ok(());
