@@ -9,9 +9,8 @@ pub mod PutTogether
 pub mod FragmentsBefore
 pub mod AlikeBySamples
 pub mod SamplesTell
-pub mod Audiences
+pub mod Lists
 pub mod HeardLemmas
-pub mod AudienceNewsLemmas
 pub mod SampleActLemmas
 pub mod ActsAnd
 pub mod ActsTell
@@ -19,8 +18,9 @@ pub mod PiecesLeft
 pub mod Noted
 pub mod FewFragments
 pub mod SamplesAlone
+pub mod HearingLemmas
+pub mod ViewLemmas
 pub mod KeptLemmas
-pub mod ListenerLemmas
 pub mod OkLemmas
 pub mod ToldSampleLemmas
 pub mod OverheardLemmas
@@ -28,7 +28,6 @@ pub mod ToldSoFar
 pub mod NumberLemmas
 pub mod MakingLemmas
 pub mod MergingLemmas
-pub mod NoteLemmas
 pub mod Announced
 pub mod MergedSteps
 pub mod FragmentWalkLemmas

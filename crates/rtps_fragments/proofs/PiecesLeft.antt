@@ -22,7 +22,7 @@ use Rattle.rtps_audit.specs.Speech as audit_speech
 use Rattle.rtps_fragments.specs.SampleActs as sample_acts
 use Rattle.rtps_fragments.specs.SamplesSent as samples_sent
 use Rattle.rtps_fragments.proofs.ActsTell.{fragment_bounds}
-use Rattle.rtps_fragments.proofs.Audiences.{any_from, flat_from}
+use Rattle.rtps_fragments.proofs.Lists.{any_from, flat_from}
 use Rattle.rtps_fragments.proofs.HeardLemmas.{heard_from}
 use Rattle.rtps_fragments.proofs.PutTogether.{EachOf, IsWithin, put_of, some_of_shape}
 

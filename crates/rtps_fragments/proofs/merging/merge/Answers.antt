@@ -17,7 +17,7 @@ loop-place-preserved c =
     let act = values.spoken_value item in
     let at : slice_get (map values.spoken_value acts) place ≡ Some act = get_mapped values.spoken_value acts place item (slice_get-get_or acts place item c.loop-place-test.true ∙ ap Some (sym c.index-acts-place.is)) in
     let one = ap (map values.spoken_value) c.in_ok-extend_from_slice.ensures.items ∙ map-append values.spoken_value c.loop-place.merged.items _ ∙ ap (λ xs. map values.spoken_value c.loop-place.merged.items ++ map values.spoken_value xs) c.from_ref.ensures.value in
-    let pushed = c.in_ok-push_told.ensures ∙ ap (λ xs. xs ++ merging.acts_told c.args.form act act.body (map told_samples.told_value c.split_at.result.0.now)) one in
-    ap (λ xs. xs ++ merging.merged_from c.args.form (place + 1) (drop (place + 1) (map values.spoken_value acts)) (map told_samples.told_value c.split_at.result.1.now)) pushed
-    ∙ merge_step c.args.form (map values.spoken_value acts) place act (map told_samples.told_value c.loop-place.rest.now) (map told_samples.told_value c.split_at.result.0.now) (map told_samples.told_value c.split_at.result.1.now) (map values.spoken_value c.loop-place.merged.items) _ at
+    let pushed = c.in_ok-push_told.ensures ∙ ap (λ xs. xs ++ merging.acts_told act act.body (map told_samples.told_value c.split_at.result.0.now)) one in
+    ap (λ xs. xs ++ merging.merged_from (place + 1) (drop (place + 1) (map values.spoken_value acts)) (map told_samples.told_value c.split_at.result.1.now)) pushed
+    ∙ merge_step (map values.spoken_value acts) place act (map told_samples.told_value c.loop-place.rest.now) (map told_samples.told_value c.split_at.result.0.now) (map told_samples.told_value c.split_at.result.1.now) (map values.spoken_value c.loop-place.merged.items) _ at
     (c.run_length.ensures.run ∙ ap (map told_samples.told_value) (sym c.split_at.ensures.front)) (c.run_length.ensures.past ∙ ap (map told_samples.told_value) (sym c.split_at.ensures.back)) c.loop-place.invariant

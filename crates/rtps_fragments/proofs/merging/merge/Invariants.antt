@@ -7,4 +7,4 @@ use Rattle.rtps_fragments.proofs.merging.merge.Given as goal
 -- what is merged so far and what is left are all
 abbrev pub invariant-loop-place : goal.invariant-loop-place
 invariant-loop-place l =
-    map values.spoken_value l.merged.items ++ merging.merged_from l.form l.place (drop l.place (map values.spoken_value l.acts)) (map told_samples.told_value l.rest) ≡ merging.merged_from l.form 0 (map values.spoken_value l.acts) (map told_samples.told_value l.told)
+    map values.spoken_value l.merged.items ++ merging.merged_from l.place (drop l.place (map values.spoken_value l.acts)) (map told_samples.told_value l.rest) ≡ merging.merged_from 0 (map values.spoken_value l.acts) (map told_samples.told_value l.told)

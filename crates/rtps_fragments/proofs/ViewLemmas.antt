@@ -1,0 +1,176 @@
+-- What one reader hears of the acts of one GUID in their places, one act after another.
+use Rattle.std.proofs.lemmas.Grind.{common_steps}
+use Rattle.std.proofs.lemmas.Bool.Decides.{nat_tests}
+use Rattle.std.proofs.Common.{◌≡◌, ℕ, ◌+◌, Bool, true, false, cond, ◌&&◌, List, [], ◌∷◌, ◌++◌, filter, map, Option, Some, None, refl, sym, ◌∙◌, ap, ap₂, subst, inl, inr, append_assoc, append-nil, arith}
+use Rattle.std.specs.List.{cons_option, filter_map}
+use Rattle.std.proofs.lemmas.Bool.{cases_Bool}
+use Rattle.std.proofs.lemmas.List.{map-append}
+use Rattle.std.proofs.lemmas.List.Elements.{filter-append, filter_map-append}
+use Rattle.rtps_ids.specs.declared.identity.Guid.{Guid}
+use Rattle.rtps_wire.specs.Values as wire_values
+use Rattle.rtps_receiver.specs.Speech as speech
+use Rattle.rtps_receiver.specs.Values as values
+use Rattle.rtps_discovery.specs.declared.matching.Pair.{Pair}
+use Rattle.rtps_audit.specs.Placed as placed
+use Rattle.rtps_audit.specs.Speech as audit_speech
+use Rattle.rtps_audit.proofs.Offered.{speaker_is_origin}
+use Rattle.rtps_fragments.specs.FragmentDelivery as fragment_delivery
+use Rattle.rtps_fragments.specs.Hearing as hearing
+use Rattle.rtps_fragments.specs.SampleActs as sample_acts
+use Rattle.rtps_fragments.specs.Samples as samples
+use Rattle.rtps_fragments.proofs.HeardLemmas.{heard-more, heard_one}
+use Rattle.rtps_fragments.proofs.SampleActLemmas.{hears_part}
+use Rattle.rtps_fragments.proofs.ToldSampleLemmas.{guid_same}
+
+-- ---- one act more
+
+-- the acts with their pieces
+abbrev pub pieces_at : List placed.PlacedValue → List sample_acts.PieceAct
+pieces_at acts = map (λ one. hearing.with_piece one.act) acts
+
+-- an act in its place, and the samples that it tells behind these
+abbrev pub heard_one_at : Guid → List sample_acts.PieceAct → placed.PlacedValue → List placed.PlacedValue
+heard_one_at reader before one = one ∷ placed.placed_at one.datagram (sample_acts.samples_told reader before one.act (hearing.piece_in one.act.body))
+
+pub heard_behind-more : (reader : Guid) (before : List sample_acts.PieceAct) (acts : List placed.PlacedValue) (one : placed.PlacedValue) → hearing.heard_behind reader before (acts ++ one ∷ []) ≡ hearing.heard_behind reader before acts ++ heard_one_at reader (before ++ pieces_at acts) one
+heard_behind-more reader before [] one =
+    ap (λ told. one ∷ told) (append-nil (placed.placed_at one.datagram (sample_acts.samples_told reader before one.act (hearing.piece_in one.act.body)))) ∙ ap (λ bs. heard_one_at reader bs one) (sym (append-nil before))
+heard_behind-more reader before (first ∷ acts) one =
+    let told = placed.placed_at first.datagram (sample_acts.samples_told reader before first.act (hearing.piece_in first.act.body)) in
+    ap (λ rest. first ∷ (told ++ rest)) (heard_behind-more reader (before ++ hearing.with_piece first.act ∷ []) acts one ∙ ap (λ bs. hearing.heard_behind reader (before ++ hearing.with_piece first.act ∷ []) acts ++ heard_one_at reader bs one) (append_assoc before (hearing.with_piece first.act ∷ []) (pieces_at acts)))
+    ∙ ap (λ rest. first ∷ rest) (sym (append_assoc told (hearing.heard_behind reader (before ++ hearing.with_piece first.act ∷ []) acts) (heard_one_at reader (before ++ pieces_at (first ∷ acts)) one)))
+
+-- ---- the acts of a recording in their places
+
+acts_at : (reader : Guid) (d : ℕ) (before : List sample_acts.PieceAct) (acts : List values.ActValue) (rest : List placed.PlacedValue)
+    → placed.placed_at d (sample_acts.acts_and (sample_acts.samples_told reader) before (map hearing.with_piece acts)) ++ hearing.heard_behind reader (before ++ map hearing.with_piece acts) rest ≡ hearing.heard_behind reader before (placed.placed_at d acts ++ rest)
+acts_at reader d before [] rest = ap (λ bs. hearing.heard_behind reader bs rest) (append-nil before)
+acts_at reader d before (act ∷ acts) rest =
+    let told = sample_acts.samples_told reader before act (hearing.piece_in act.body) in
+    let more = sample_acts.acts_and (sample_acts.samples_told reader) (before ++ hearing.with_piece act ∷ []) (map hearing.with_piece acts) in
+    let here : placed.PlacedValue = record { datagram = d; act = act } in
+    let at = λ (a : values.ActValue). let one : placed.PlacedValue = record { datagram = d; act = a } in one in
+    ap (λ xs. here ∷ (xs ++ hearing.heard_behind reader (before ++ map hearing.with_piece (act ∷ acts)) rest)) (map-append at told more)
+    ∙ ap (λ xs. here ∷ xs) (append_assoc (placed.placed_at d told) (placed.placed_at d more) (hearing.heard_behind reader (before ++ map hearing.with_piece (act ∷ acts)) rest))
+    ∙ ap (λ bs. here ∷ (placed.placed_at d told ++ (placed.placed_at d more ++ hearing.heard_behind reader bs rest))) (sym (append_assoc before (hearing.with_piece act ∷ []) (map hearing.with_piece acts)))
+    ∙ ap (λ xs. here ∷ (placed.placed_at d told ++ xs)) (acts_at reader d (before ++ hearing.with_piece act ∷ []) acts rest)
+
+recording_at : (reader : Guid) (count : ℕ) (before : List sample_acts.PieceAct) (recording : List (List values.ActValue))
+    → placed.placed_behind count (sample_acts.datagrams_and (sample_acts.samples_told reader) before (map (map hearing.with_piece) recording)) ≡ hearing.heard_behind reader before (placed.placed_behind count recording)
+recording_at reader count before [] = refl
+recording_at reader count before (acts ∷ recording) =
+    ap (λ rest. placed.placed_at (count + 1) (sample_acts.acts_and (sample_acts.samples_told reader) before (map hearing.with_piece acts)) ++ rest) (recording_at reader (count + 1) (before ++ map hearing.with_piece acts) recording)
+    ∙ acts_at reader (count + 1) before acts (placed.placed_behind (count + 1) recording)
+
+-- ---- those of one GUID
+
+module _ (origin reader : Guid) where
+  -- the samples that an act tells are from where it is from
+  told_from : (d : ℕ) (one : placed.PlacedValue) (b : Bool) → placed.is_from origin one ≡ b → (n : ℕ) (payloads : List wire_values.PayloadValue) → filter (placed.is_from origin) (placed.placed_at d (map (sample_acts.sample_act reader one.act n) payloads)) ≡ cond b (placed.placed_at d (map (sample_acts.sample_act reader one.act n) payloads)) []
+  told_from d one true e n [] = refl
+  told_from d one false e n [] = refl
+  told_from d one true e n (payload ∷ payloads) =
+      let told : placed.PlacedValue = record { datagram = d; act = sample_acts.sample_act reader one.act n payload } in
+      let rest = placed.placed_at d (map (sample_acts.sample_act reader one.act n) payloads) in
+      ap (λ b. cond b (told ∷ filter (placed.is_from origin) rest) (filter (placed.is_from origin) rest)) e ∙ ap (λ xs. told ∷ xs) (told_from d one true e n payloads)
+  told_from d one false e n (payload ∷ payloads) =
+      let told : placed.PlacedValue = record { datagram = d; act = sample_acts.sample_act reader one.act n payload } in
+      let rest = placed.placed_at d (map (sample_acts.sample_act reader one.act n) payloads) in
+      ap (λ b. cond b (told ∷ filter (placed.is_from origin) rest) (filter (placed.is_from origin) rest)) e ∙ told_from d one false e n payloads
+
+  samples_from : (d : ℕ) (one : placed.PlacedValue) (b : Bool) → placed.is_from origin one ≡ b → (before : List sample_acts.PieceAct) (o : Option fragment_delivery.Piece)
+      → filter (placed.is_from origin) (placed.placed_at d (sample_acts.samples_told reader before one.act o)) ≡ cond b (placed.placed_at d (sample_acts.samples_told reader before one.act o)) []
+  samples_from d one true e before None = refl
+  samples_from d one false e before None = refl
+  samples_from d one b e before (Some piece) = by (speech.is_heard_by one.act reader)
+    where
+      payloads : List wire_values.PayloadValue
+      payloads = samples.told_by (sample_acts.heard_from (speech.origin_of one.act) reader before) piece
+
+      nothing : (b : Bool) → [] ≡ cond b (placed.placed_at d []) []
+      nothing true = refl
+      nothing false = refl
+
+      by : (hears : Bool) → filter (placed.is_from origin) (placed.placed_at d (cond hears (map (sample_acts.sample_act reader one.act piece.number) payloads) [])) ≡ cond b (placed.placed_at d (cond hears (map (sample_acts.sample_act reader one.act piece.number) payloads) [])) []
+      by true = told_from d one b e piece.number payloads
+      by false = nothing b
+
+  -- the same is heard of the GUID
+  abbrev IsSame : List sample_acts.PieceAct → List sample_acts.PieceAct → Type 0
+  IsSame before other = sample_acts.heard_from origin reader before ≡ sample_acts.heard_from origin reader other
+
+  same_more : (before other : List sample_acts.PieceAct) (part : sample_acts.PieceAct) → IsSame before other → IsSame (before ++ part ∷ []) (other ++ part ∷ [])
+  same_more before other part same =
+      heard-more (hears_part origin reader) before part ∙ ap (λ fs. fs ++ heard_one (hears_part origin reader part) part.piece) same ∙ sym (heard-more (hears_part origin reader) other part)
+
+  -- the act of another GUID adds nothing
+  same_without : (before other : List sample_acts.PieceAct) (one : placed.PlacedValue) → placed.is_from origin one ≡ false → IsSame before other → IsSame (before ++ hearing.with_piece one.act ∷ []) other
+  same_without before other one apart same =
+      let part = hearing.with_piece one.act in
+      heard-more (hears_part origin reader) before part ∙ ap (λ b. sample_acts.heard_from origin reader before ++ heard_one (b && speech.is_heard_by one.act reader) part.piece) unspoken ∙ append-nil (sample_acts.heard_from origin reader before) ∙ same
+    where
+      unspoken : speech.is_spoken_by one.act origin ≡ false
+      unspoken = elim (cases_Bool (speech.is_spoken_by one.act origin)) [
+        | inl spoken ↦ absurd (let clash : true ≡ false = sym (speaker_is_origin origin one spoken) ∙ apart in cc)
+        | inr not ↦ not
+      ]
+
+  samples_same : (before other : List sample_acts.PieceAct) (one : placed.PlacedValue) → placed.is_from origin one ≡ true → IsSame before other → (o : Option fragment_delivery.Piece) → sample_acts.samples_told reader before one.act o ≡ sample_acts.samples_told reader other one.act o
+  samples_same before other one e same None = refl
+  samples_same before other one e same (Some piece) =
+      let own : origin ≡ speech.origin_of one.act = guid_same origin (speech.origin_of one.act) e in
+      ap (λ fs. cond (speech.is_heard_by one.act reader) (map (sample_acts.sample_act reader one.act piece.number) (samples.told_by fs piece)) [])
+      (ap (λ g. sample_acts.heard_from g reader before) (sym own) ∙ same ∙ ap (λ g. sample_acts.heard_from g reader other) own)
+
+  pub heard_from_one : (before other : List sample_acts.PieceAct) (acts : List placed.PlacedValue) → IsSame before other → filter (placed.is_from origin) (hearing.heard_behind reader before acts) ≡ hearing.heard_behind reader other (filter (placed.is_from origin) acts)
+  heard_from_one before other [] same = refl
+  heard_from_one before other (one ∷ acts) same = by (placed.is_from origin one) refl
+    where
+      part : sample_acts.PieceAct
+      part = hearing.with_piece one.act
+
+      told : List sample_acts.PieceAct → List placed.PlacedValue
+      told bs = placed.placed_at one.datagram (sample_acts.samples_told reader bs one.act part.piece)
+
+      rest : List placed.PlacedValue
+      rest = hearing.heard_behind reader (before ++ part ∷ []) acts
+
+      by : (b : Bool) → placed.is_from origin one ≡ b
+          → cond b (one ∷ filter (placed.is_from origin) (told before ++ rest)) (filter (placed.is_from origin) (told before ++ rest)) ≡ hearing.heard_behind reader other (cond b (one ∷ filter (placed.is_from origin) acts) (filter (placed.is_from origin) acts))
+      by true e =
+          ap (λ xs. one ∷ xs) (filter-append (placed.is_from origin) (told before) rest ∙ ap₂ ◌++◌ (samples_from one.datagram one true e before part.piece ∙ ap (placed.placed_at one.datagram) (samples_same before other one e same part.piece)) (heard_from_one (before ++ part ∷ []) (other ++ part ∷ []) acts (same_more before other part same)))
+      by false e = filter-append (placed.is_from origin) (told before) rest ∙ ap₂ ◌++◌ (samples_from one.datagram one false e before part.piece) (heard_from_one (before ++ part ∷ []) other acts (same_without before other one e same))
+
+-- what a reader hears of the acts of a GUID
+pub heard_of_origin : (origin reader : Guid) (recording : List (List values.ActValue)) → filter (placed.is_from origin) (placed.placed_in (hearing.heard_by reader recording)) ≡ hearing.heard_of reader (filter (placed.is_from origin) (placed.placed_in recording))
+heard_of_origin origin reader recording = ap (filter (placed.is_from origin)) (recording_at reader 0 [] recording) ∙ heard_from_one origin reader [] [] (placed.placed_in recording) refl
+
+-- ---- no sample is an answer
+
+module _ (pair : Pair) (reader : Guid) where
+  no_answers : (d : ℕ) (act : values.ActValue) (n : ℕ) (payloads : List wire_values.PayloadValue) → placed.answers_among pair (placed.placed_at d (map (sample_acts.sample_act reader act n) payloads)) ≡ []
+  no_answers d act n [] = refl
+  no_answers d act n (payload ∷ payloads) = by (speech.is_answer (sample_acts.sample_act reader act n payload) pair.reader pair.writer) ∙ no_answers d act n payloads
+    where
+      by : (b : Bool) → cons_option (placed.answer_at d act.at (cond b None None)) (placed.answers_among pair (placed.placed_at d (map (sample_acts.sample_act reader act n) payloads))) ≡ placed.answers_among pair (placed.placed_at d (map (sample_acts.sample_act reader act n) payloads))
+      by true = refl
+      by false = refl
+
+  told_answers : (d : ℕ) (act : values.ActValue) (before : List sample_acts.PieceAct) (o : Option fragment_delivery.Piece) → placed.answers_among pair (placed.placed_at d (sample_acts.samples_told reader before act o)) ≡ []
+  told_answers d act before None = refl
+  told_answers d act before (Some piece) = by (speech.is_heard_by act reader)
+    where
+      by : (b : Bool) → placed.answers_among pair (placed.placed_at d (cond b (map (sample_acts.sample_act reader act piece.number) (samples.told_by (sample_acts.heard_from (speech.origin_of act) reader before) piece)) [])) ≡ []
+      by true = no_answers d act piece.number (samples.told_by (sample_acts.heard_from (speech.origin_of act) reader before) piece)
+      by false = refl
+
+  answers_behind : (before : List sample_acts.PieceAct) (acts : List placed.PlacedValue) → placed.answers_among pair (hearing.heard_behind reader before acts) ≡ placed.answers_among pair acts
+  answers_behind before [] = refl
+  answers_behind before (one ∷ acts) =
+      let told = placed.placed_at one.datagram (sample_acts.samples_told reader before one.act (hearing.piece_in one.act.body)) in
+      let rest = hearing.heard_behind reader (before ++ hearing.with_piece one.act ∷ []) acts in
+      ap (cons_option (placed.answer_of pair one)) (filter_map-append (placed.answer_of pair) told rest ∙ ap₂ ◌++◌ (told_answers one.datagram one.act before (hearing.piece_in one.act.body)) (answers_behind (before ++ hearing.with_piece one.act ∷ []) acts))
+
+-- the answers stay
+pub answers_heard : (pair : Pair) (reader : Guid) (recording : List (List values.ActValue)) → placed.answers_among pair (placed.placed_in (hearing.heard_by reader recording)) ≡ placed.answers_among pair (placed.placed_in recording)
+answers_heard pair reader recording = ap (placed.answers_among pair) (recording_at reader 0 [] recording) ∙ answers_behind pair reader [] (placed.placed_in recording)
