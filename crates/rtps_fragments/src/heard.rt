@@ -178,7 +178,7 @@ impl<'a> Heard<'a> {
         let mut rest = fragments.octets;
         for place in 0..fragments.count {
             let (octets, behind) = rest.split_at(size.min(rest.len()));
-            self.take(last, u64::from(fragments.first) + u64::from(place), octets)?;
+            self.take(last, u64::from(fragments.first) + place as u64, octets)?;
             rest = behind;
         }
         Ok(())
