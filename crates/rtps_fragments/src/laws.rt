@@ -95,9 +95,10 @@ pub fn pairs_are_heard_without_fragments()
     ensures { laws.PairsAreHeardWithoutFragments }
 {}
 
-/// What is taken in has one report by what each reader hears.
+/// What is taken in has one report by what each reader hears: rows of the same pairs are the same.
 pub fn one_report_heard()
-    ensures { sample_report.HasOneReportHeard }
+    ensures rows { sample_report.RowsHeardAreOne }
+    ensures report { sample_report.HasOneReportHeard }
 {
     one_map();
     has_no_two_verdicts();
