@@ -82,7 +82,7 @@ abbrev pub HaveCome : Guid → List sample_acts.PieceAct → Makings → Type 0
 HaveCome reader acts makings = making.AreMakings (came_to reader acts) makings
 
 -- This is what the reader hears of these acts in their places.
-pub record IsHearing (reader : Guid) (acts : List placed.PlacedValue) (hearing : Hearing) : Type 0 where
-  pub reader : hearing.reader ≡ reader
-  pub makings : HaveCome reader (map (λ one. with_piece one.act) acts) hearing.makings
-  pub acts : map placed.placed_value hearing.acts.items ≡ heard_of reader acts
+pub record IsHearing (reader : Guid) (sent : List placed.PlacedValue) (hearing : Hearing) : Type 0 where
+  pub own : hearing.reader ≡ reader
+  pub makings : HaveCome reader (map (λ one. with_piece one.act) sent) hearing.makings
+  pub acts : map placed.placed_value hearing.acts.items ≡ heard_of reader sent
