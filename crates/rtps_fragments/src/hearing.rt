@@ -156,11 +156,7 @@ impl<'a> Hearing<'a> {
 
     /// Hears one act more. After `Memory` it is of no use.
     fn hear(&mut self, arena: &'a Bump, placed: &Placed<'a>) -> Result<(), Memory>
-<<<<<<< HEAD
-        ensures acts { OnOk result ((acts : List placed_spec.PlacedValue) → hearing_spec.IsHearing self.old.reader acts self.old
-=======
         ensures heard { OnOk result ((acts : List placed_spec.PlacedValue) → hearing_spec.IsHearing self.old.reader acts self.old
->>>>>>> c4488dbfa3dda38fba81e38f3ee3b53568838856
             → hearing_spec.IsHearing self.old.reader (acts ++ placed_spec.placed_value placed.now ∷ []) self.new) }
         ensures reader { self.new.reader ≡ self.old.reader }
     {

@@ -90,6 +90,11 @@ pub fn verdicts_stay_without_fragments()
     verdicts_follow_what_is_said();
 }
 
+/// Acts without fragments are overheard as they are.
+pub fn acts_are_overheard_without_fragments()
+    ensures { laws.OverheardWithoutFragments }
+{}
+
 /// Where neither what a writer said nor what a reader asked sends fragments, that is what the reader hears.
 pub fn pairs_are_heard_without_fragments()
     ensures { laws.PairsAreHeardWithoutFragments }
