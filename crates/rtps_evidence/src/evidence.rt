@@ -131,7 +131,7 @@ impl<'a> Evidence<'a> {
             from,
             in_spans: false,
         };
-        let judgement = Judgement::of(index, pair, &[], extent);
+        let judgement = Judgement::of(index, pair, &[], &extent);
         let found = Evidence::of_judged(alloc, &sides, &judgement)?;
         Ok(found.evidence)
     }

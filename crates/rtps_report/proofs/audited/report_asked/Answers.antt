@@ -10,7 +10,9 @@ use Rattle.rtps_audit.specs.Speech as speech
 use Rattle.rtps_audit.specs.declared.report.Report.{Report}
 use Rattle.rtps_audit.specs.declared.report.Row.{Row}
 use Rattle.rtps_fragments.specs.Laws as fragments_laws
+use Rattle.rtps_fragments.specs.RecordedSamples as recorded_samples
 use Rattle.rtps_fragments.specs.SampleReport as sample_report
+use Rattle.rtps_fragments.specs.declared.fragments.Fragments.{Fragments}
 use Rattle.rtps_report.proofs.audited.report_asked.Goals as goal
 
 -- where no act sends fragments, the report by the acts as they are sent is the one by what each reader hears
@@ -26,6 +28,7 @@ plain_report stay from intake report none is = record {
 
 pub returns-in-Skipped : goal.returns-in-Skipped
 returns-in-Skipped g c = λ recording is.
-    let intake = intake_spec.intake_of recording in
+    let intake = recorded_samples.intake_as c.args.asked.fragments recording in
+    let unsent = subst (λ (f : Fragments). fragments_laws.SendNoFragments (recorded_samples.intake_as f recording).acts) (sym c.in-Skipped.is) (c.skipped_fragments_are_not_sent.ensures recording) in
     IfOk-weaker c.report_from.result (delivered.IsExactReportBy c.args.asked.from intake) (sample_report.IsReportHeard c.args.asked.from intake)
-    (λ report exact. plain_report c.acts_are_heard_without_fragments.ensures c.args.asked.from intake report (c.skipped_fragments_are_not_sent.ensures recording) exact.report) (c.report_from.ensures intake is)
+    (λ report exact. plain_report c.acts_are_heard_without_fragments.ensures c.args.asked.from intake report unsent exact.report) (c.report_from.ensures intake is)
