@@ -76,7 +76,6 @@ pub(crate) struct Found<'a> {
 }
 
 impl<'p> Found<'p> {
-    ghost use Rattle.std.specs.Prelude.{◌≡◌, IfOk};
     ghost use Rattle.rtps_evidence.specs.Explanation as explanation;
 
     /// The same, with the octets of payloads in an arena.
