@@ -85,7 +85,7 @@ module _ (from : ℕ) (pair : Pair) (one other : List (List values.ActValue)) (a
       let spoken = speaker_is_origin pair.writer at (both_first (receiver_speech.is_spoken_by at.act pair.writer) (receiver_speech.is_heard_by at.act pair.reader) heard) in
       let kept = subst (λ (l : List placed.PlacedValue). Contains l at) acts (kept_if_passed (placed.is_from pair.writer) (placed.placed_in one) at among spoken) in
       let (j, m, also, there) = word_is_given from pair.writer pair.reader other n word at (kept_is_there (placed.is_from pair.writer) (placed.placed_in other) at kept) says gives.asked in
-      let same : j ≡ i = omega arith in
+      let same : j ≡ i = omega (arith, place, there) in
       (m, subst (λ p. delivery.Gives from (speech.speech_by pair.writer pair.reader other) p m n word) same also)
 
   claim_there : (j n : ℕ) → delivery.Claims from (speech.speech_by pair.writer pair.reader one) j n → delivery.Claims from (speech.speech_by pair.writer pair.reader other) j n
@@ -97,7 +97,7 @@ module _ (from : ℕ) (pair : Pair) (one other : List (List values.ActValue)) (a
       let says = answered_base there.datagram there.act.at at.datagram at.act.at (speech.base_for pair.writer pair.reader there.act) base is in
       let where_it_is = answered_there there.datagram there.act.at at.datagram at.act.at (speech.base_for pair.writer pair.reader there.act) base is in
       let (i, also, place_there) = base_is_claim from pair.writer pair.reader other n base there stands says below claims.asked in
-      let same : i ≡ j = omega arith in
+      let same : i ≡ j = omega (arith, place, where_it_is, place_there) in
       subst (λ p. delivery.Claims from (speech.speech_by pair.writer pair.reader other) p n) same also
 
 announced_same : (from : ℕ) (pair : Pair) (one other : List (List values.ActValue)) → filter (placed.is_from pair.writer) (placed.placed_in one) ≡ filter (placed.is_from pair.writer) (placed.placed_in other)
