@@ -96,12 +96,7 @@ impl<'r, 'a> Said<'r, 'a> {
 
     /// Judges what the pair said, of the writer's numbers from `from` on, as [`Index::judge_from`] does. `Memory` is answered where what is
     /// kept of that cannot grow.
-    pub fn judge_from(
-        &self,
-        alloc: Global,
-        pair: Pair,
-        from: FirstAsked,
-    ) -> Result<Verdict, Memory>
+    pub fn judge_from(&self, alloc: Global, pair: Pair, from: FirstAsked) -> Result<Verdict, Memory>
         ensures { (recording : List (List values.ActValue)) → said.IsSaid pair recording self.now
             → IfOk result (delivered.IsExactVerdictFrom from (speech.speech_by pair.writer pair.reader recording)) }
     {

@@ -83,7 +83,6 @@ no_piece body none = grind (arith, nat_tests)
 plain_body : (item : wire_values.BodyValue) (body : receiver_values.ActBodyValue) → acts.act_body item ≡ Some body → hearing.sends_fragments body ≡ false
 plain_body item body is = grind (arith, nat_tests)
 
-
 item_pieces : (octets : List ℕ) (state : State) (item : wire_values.ItemValue) → map hearing.with_piece (map (λ one. one.act) (fragment_walk.piece_acts_of_item octets state item (acts.act_body item.body))) ≡ fragment_walk.piece_acts_of_item octets state item (acts.act_body item.body)
 item_pieces octets state item = by (acts.act_body item.body) refl
   where

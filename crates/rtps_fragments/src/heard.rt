@@ -129,12 +129,7 @@ impl<'a> Heard<'a> {
 
     /// The octets of all fragments, with those of the other one in place of the first ones of the fragment of its number; of none where it
     /// is 0. Each fragment came, so there are as many octets as the sample has, and room for them is asked for at once.
-    fn joined(
-        &self,
-        arena: &'a Bump,
-        shape: Shape,
-        other: (u64, &[u8]),
-    ) -> Result<&'a [u8], Memory>
+    fn joined(&self, arena: &'a Bump, shape: Shape, other: (u64, &[u8])) -> Result<&'a [u8], Memory>
         requires size { 0 < shape.fragment }
         requires whole { data_frag.last_fragment shape ≤ heard.kept_front self.now }
         ensures { IfOk result (λ sample. (came : List (ℕ × List ℕ)) (parts : List (List ℕ)) → heard.IsHeard (data_frag.last_fragment shape) came self.now
