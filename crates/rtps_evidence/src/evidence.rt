@@ -131,7 +131,7 @@ impl<'a> Evidence<'a> {
             in_spans: false,
         };
         let judgement = Judgement::of(index, pair, &[], &extent);
-        let found = Evidence::of_judged(alloc, &sides, &judgement)?;
+        let found = Evidence::of_judged(alloc, &sides, judgement)?;
         Ok(found.evidence)
     }
 
@@ -139,15 +139,15 @@ impl<'a> Evidence<'a> {
     pub(crate) fn of_judged(
         alloc: Global,
         sides: &Sides<'_, 'a, '_, '_>,
-        judgement: &Judgement,
+        judgement: Judgement,
     ) -> Result<Found<'a>, Memory>
         ensures shown { (intake : intake.Intake) (beside : other_side.Beside) → other_side.AreSides intake beside sides.now
-            → IfSome judgement.now.known (evidence_spec.IsVerdictIn judgement.now.span judgement.now.pair intake.acts)
-            → IfOk result (λ found. evidence_spec.IsShown (other_side.is_there intake.acts beside.other judgement.now.pair) judgement.now.span.from (spans.since_of judgement.now.span) judgement.now.pair (spans.heard_in judgement.now.span judgement.now.pair intake.acts) found.evidence) }
+            → IfSome judgement.known (evidence_spec.IsVerdictIn judgement.span judgement.pair intake.acts)
+            → IfOk result (λ found. evidence_spec.IsShown (other_side.is_there intake.acts beside.other judgement.pair) judgement.span.from (spans.since_of judgement.span) judgement.pair (spans.heard_in judgement.span judgement.pair intake.acts) found.evidence) }
         ensures beside { (intake : intake.Intake) (beside : other_side.Beside) → other_side.AreSides intake beside sides.now
-            → IfSome judgement.now.known (evidence_spec.IsVerdictIn judgement.now.span judgement.now.pair intake.acts)
-            → IfOk result (λ found. evidence_spec.IsBeside judgement.now.in_spans beside judgement.now.span judgement.now.pair intake.acts (spans.heard_in judgement.now.span judgement.now.pair intake.acts) found.evidence.in_span
-            × kinds.IsLostIn judgement.now.in_spans beside judgement.now.span judgement.now.pair intake.acts (spans.heard_in judgement.now.span judgement.now.pair intake.acts) (kinds.lost_value found.lost)) }
+            → IfSome judgement.known (evidence_spec.IsVerdictIn judgement.span judgement.pair intake.acts)
+            → IfOk result (λ found. evidence_spec.IsBeside judgement.in_spans beside judgement.span judgement.pair intake.acts (spans.heard_in judgement.span judgement.pair intake.acts) found.evidence.in_span
+            × kinds.IsLostIn judgement.in_spans beside judgement.span judgement.pair intake.acts (spans.heard_in judgement.span judgement.pair intake.acts) (kinds.lost_value found.lost)) }
     {
         let arrivals = Arrivals::of(alloc, sides, judgement.pair)?;
         let exchange = Exchange {

@@ -105,7 +105,7 @@ pub fn explain_pairs<'a, P: Watch>(
     let mut lost = Vec::with_capacity(alloc, pairs.len())?;
     for pair in pairs {
         let judgement = Judgement::of(sides.index, *pair, known, &extent);
-        let found = Evidence::of_judged(alloc, sides, &judgement)?;
+        let found = Evidence::of_judged(alloc, sides, judgement)?;
         rows.push(explanation_of(directory, *pair, found.evidence, rows.len()))?;
         lost.push(found.lost)?;
         watch.explained(rows.len(), pairs.len());

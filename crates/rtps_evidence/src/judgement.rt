@@ -38,28 +38,37 @@ pub(crate) fn span_of(index: &Index<'_>, pair: Pair, extent: &Extent) -> Span
     }
 }
 
-/// The verdict of a pair's row, if it is among these. They are looked through fastest where they are in order.
-fn verdict_among(known: &[Row], pair: Pair) -> Option<Verdict>
-    ensures { (from : ℕ) (acts : List (List values.ActValue)) → All (report.IsJudgedFrom from acts) known.now
-        → IfSome result (run_verdict.IsVerdictFrom from (speech.speech_by pair.writer pair.reader acts)) }
+/// The row of a pair, if it is among these. They are looked through fastest where they are in order.
+fn row_among(known: &[Row], pair: Pair) -> Option<Row>
+    ensures pair { IfSome result (λ row. row.pair ≡ pair) }
+    ensures judged { (from : ℕ) (acts : List (List values.ActValue)) → All (report.IsJudgedFrom from acts) known.now → IfSome result (report.IsJudgedFrom from acts) }
 {
     let place = known.partition_point(|row| row.pair < pair);
     if place < known.len() && known[place].pair == pair {
-        return Some(known[place].verdict);
+        return Some(known[place]);
     }
     None
 }
 
-/// The verdict on a pair in its span, where this is the one by the whole recording and the numbers from `from` on. None where the span is
+/// The verdict on a row's pair in its span, where the row is by the whole recording and the numbers from `from` on. None where the span is
 /// another.
-fn verdict_in(span: &Span, known: Option<Verdict>, from: SeqNum) -> Option<Verdict>
-    ensures { (pair : Pair) (acts : List (List values.ActValue)) → IfSome known (run_verdict.IsVerdictFrom from (speech.speech_by pair.writer pair.reader acts))
-        → IfSome result (evidence.IsVerdictIn span.now pair acts) }
+fn verdict_in(span: &Span, row: Row, from: SeqNum) -> Option<Verdict>
+    ensures { (acts : List (List values.ActValue)) → report.IsJudgedFrom from acts row → IfSome result (evidence.IsVerdictIn span.now row.pair acts) }
 {
     if span.from == FirstAsked::of(from) && span.until.is_none() {
-        known
+        Some(row.verdict)
     } else {
         None
+    }
+}
+
+/// The verdict on a pair in its span, where one of these rows by the numbers from `from` on tells it.
+fn known_in(span: &Span, known: &[Row], pair: Pair, from: SeqNum) -> Option<Verdict>
+    ensures { (acts : List (List values.ActValue)) → All (report.IsJudgedFrom from acts) known.now → IfSome result (evidence.IsVerdictIn span.now pair acts) }
+{
+    match row_among(known, pair) {
+        Some(row) => verdict_in(span, row, from),
+        None => None,
     }
 }
 
@@ -72,7 +81,7 @@ impl Judgement {
         ensures known { (acts : List (List values.ActValue)) → All (report.IsJudgedFrom extent.now.from acts) known.now → IfSome result.known (evidence.IsVerdictIn result.span pair acts) }
     {
         let span = span_of(index, pair, extent);
-        let known = verdict_in(&span, verdict_among(known, pair), extent.from);
+        let known = known_in(&span, known, pair, extent.from);
         Judgement {
             pair,
             span,

@@ -14,7 +14,7 @@ returns c =
     let verdict = c.in_ok-verdict.verdict in
     let hears = λ (recording : List (List values.ActValue)) (is : said.IsSaid pair recording exchange.said). c.pairs_are_heard_without_fragments.ensures pair recording exchange.said is c.requires.acts c.requires.asks in
     let judged : (recording : List (List values.ActValue)) → said.IsSaid pair recording exchange.said → run_verdict.IsVerdictFrom exchange.span.from (speech.speech_by pair.writer pair.reader recording) verdict
-        → run_verdict.IsVerdictFrom exchange.span.from (speech.speech_by pair.writer pair.reader (hearing.heard_by pair.reader recording)) verdict =
+    → run_verdict.IsVerdictFrom exchange.span.from (speech.speech_by pair.writer pair.reader (hearing.heard_by pair.reader recording)) verdict =
     λ recording is known.
     let none : hearing.have_fragments (filter (placed.is_from pair.writer) (placed.placed_in recording)) ≡ false = ap hearing.have_fragments (sym is.acts) ∙ c.requires.acts in
     (c.verdicts_stay_without_fragments.ensures exchange.span.from pair.writer pair.reader recording verdict none).1 known in
