@@ -1,6 +1,6 @@
 -- Laws over definitions alone, whatever the number is from which on numbers are asked for. own: what a reader of the definitions
 -- would ask of them.
-use Rattle.std.specs.Prelude.{ℕ, ◌+◌, ◌<◌, ◌≤◌, ◌≡◌, ◌≢◌, ◌↔◌, ◌⊎◌, length, List, [], map, Option, Some, None, is_some, false, true, drop, sum_by, All, Contains}
+use Rattle.std.specs.Prelude.{ℕ, ◌+◌, ◌<◌, ◌≤◌, ◌≡◌, ◌≢◌, ◌↔◌, ◌⊎◌, filter, length, List, [], map, Option, Some, None, is_some, false, true, drop, sum_by, All, Contains}
 use Rattle.rtps_ids.specs.declared.identity.EntityId.{EntityId}
 use Rattle.rtps_ids.specs.declared.identity.Guid.{Guid}
 use Rattle.rtps_wire.specs.DataFrag as data_frag
@@ -11,12 +11,15 @@ use Rattle.rtps_receiver.specs.Acts as acts
 use Rattle.rtps_receiver.specs.Speech as receiver_speech
 use Rattle.rtps_receiver.specs.Values as receiver_values
 use Rattle.rtps_discovery.specs.Notice as notice
+use Rattle.rtps_discovery.specs.declared.matching.Pair.{Pair}
 use Rattle.rtps_audit.specs.Delivery as delivery
 use Rattle.rtps_audit.specs.RunVerdict as run_verdict
 use Rattle.rtps_audit.specs.PlainVerdict as plain_verdict
 use Rattle.rtps_audit.specs.Intake as intake
+use Rattle.rtps_audit.specs.Placed as placed
 use Rattle.rtps_audit.specs.Said as said
 use Rattle.rtps_audit.specs.Speech as audit_speech
+use Rattle.rtps_audit.specs.declared.said_between.Said.{Said}
 use Rattle.rtps_audit.specs.declared.verdict.Verdict.{Verdict}
 use Rattle.rtps_fragments.specs.Announcing as announcing
 use Rattle.rtps_fragments.specs.FragmentDelivery as fragment_delivery
@@ -121,6 +124,23 @@ SendNoFragments recording = (datagram : List receiver_values.ActValue) (act : re
 -- where none does, each reader hears the acts as they are
 abbrev pub ActsAreHeardWithoutFragments : Type 0
 ActsAreHeardWithoutFragments = (reader : Guid) (recording : List (List receiver_values.ActValue)) → SendNoFragments recording → hearing.heard_by reader recording ≡ recording
+
+-- where no act of a writer sends fragments, the verdict on what a reader hears is the one on the acts as they are sent
+abbrev pub VerdictsStayWithoutFragments : Type 0
+VerdictsStayWithoutFragments =
+    (from : ℕ) (writer reader : Guid) (recording : List (List receiver_values.ActValue)) (verdict : Verdict) → hearing.have_fragments (filter (placed.is_from writer) (placed.placed_in recording)) ≡ false
+    → run_verdict.IsVerdictFrom from (audit_speech.speech_by writer reader (hearing.heard_by reader recording)) verdict ↔ run_verdict.IsVerdictFrom from (audit_speech.speech_by writer reader recording) verdict
+
+-- acts without fragments are overheard as they are
+abbrev pub OverheardWithoutFragments : Type 0
+OverheardWithoutFragments = (acts : List placed.PlacedValue) → hearing.have_fragments acts ≡ false → hearing.overheard_of acts ≡ acts
+
+-- where neither what a writer said nor what a reader asked sends fragments, that is what the reader hears
+abbrev pub PairsAreHeardWithoutFragments : Type 0
+PairsAreHeardWithoutFragments =
+    (pair : Pair) (recording : List (List receiver_values.ActValue)) (pair_said : Said) → said.IsSaid pair recording pair_said
+    → hearing.have_fragments (map placed.placed_value pair_said.acts.now) ≡ false → hearing.have_fragments (map placed.placed_value pair_said.asks.now) ≡ false
+    → said.IsSaid pair (hearing.heard_by pair.reader recording) pair_said
 
 -- no act of a recording whose fragments are skipped sends some
 abbrev pub SkippedFragmentsAreNotSent : Type 0

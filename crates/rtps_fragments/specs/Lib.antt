@@ -12,6 +12,7 @@ pub mod Merging
 pub mod FragmentWalk
 pub mod RecordedSamples
 pub mod Hearing
+pub mod SampleReport
 pub mod Whole
 pub mod Making
 pub mod ReadDatagrams

@@ -1,5 +1,4 @@
 ghost use Rattle.std.specs.Prelude.{◌≡◌, ◌++◌, ◌∷◌, [], map, IfOk, List, MatchOption, None, OnOk};
-ghost use Rattle.std.specs.List.{list_any};
 ghost use Rattle.rtps_receiver.specs.Values as values;
 ghost use Rattle.rtps_audit.specs.Placed as placed_spec;
 ghost use Rattle.rtps_audit.specs.Said as said_spec;
@@ -40,9 +39,9 @@ fn sends_fragments(act: &Spoken<'_>) -> bool
     }
 }
 
-/// Whether some of these acts does.
-fn have_fragments(acts: &[Placed<'_>]) -> bool
-    ensures { result ≡ list_any (λ at. hearing_spec.sends_fragments at.act.body) (map placed_spec.placed_value acts.now) }
+/// Whether some of these acts sends fragments.
+pub fn have_fragments(acts: &[Placed<'_>]) -> bool
+    ensures { result ≡ hearing_spec.have_fragments (map placed_spec.placed_value acts.now) }
 {
     for placed in acts {
         if sends_fragments(&placed.act) {

@@ -1,8 +1,12 @@
 //! Laws over definitions alone. Each function does nothing: its clause is the law, and its proof the law's proof.
 
 ghost use Rattle.rtps_fragments.specs.Laws as laws;
+ghost use Rattle.rtps_fragments.specs.SampleReport as sample_report;
 
-use rtps_audit::laws::{runs_exist_where_founded, verdicts_agree};
+use rtps_audit::laws::{
+    has_no_two_verdicts, runs_exist_where_founded, verdicts_agree, verdicts_follow_what_is_said,
+};
+use rtps_discovery::laws::one_map;
 
 /// Where a recording with fragments and one without tell alike, and claim and announce the same, the verdict by all runs in which
 /// the reader takes fragments one by one is the verdict of the recording without fragments.
@@ -78,6 +82,32 @@ pub fn sent_acts_are_heard()
 pub fn acts_are_heard_without_fragments()
     ensures { laws.ActsAreHeardWithoutFragments }
 {}
+
+/// Where no act of a writer sends fragments, the verdict on what a reader hears of it is the one on the acts as they are sent.
+pub fn verdicts_stay_without_fragments()
+    ensures { laws.VerdictsStayWithoutFragments }
+{
+    verdicts_follow_what_is_said();
+}
+
+/// Acts without fragments are overheard as they are.
+pub fn acts_are_overheard_without_fragments()
+    ensures { laws.OverheardWithoutFragments }
+{}
+
+/// Where neither what a writer said nor what a reader asked sends fragments, that is what the reader hears.
+pub fn pairs_are_heard_without_fragments()
+    ensures { laws.PairsAreHeardWithoutFragments }
+{}
+
+/// What is taken in has one report by what each reader hears: rows of the same pairs are the same.
+pub fn one_report_heard()
+    ensures rows { sample_report.RowsHeardAreOne }
+    ensures report { sample_report.HasOneReportHeard }
+{
+    one_map();
+    has_no_two_verdicts();
+}
 
 /// Where the fragments of a recording are skipped, no act of it sends some.
 pub fn skipped_fragments_are_not_sent()
