@@ -1,8 +1,9 @@
 ghost use Rattle.std.specs.Prelude.{◌≡◌, ◌++◌, map, IfOk, OnOk};
+ghost use Rattle.json.specs.Tree.{json_tokens};
 ghost use Rattle.rtps_evidence.specs.Explanation.{explanation_value};
 ghost use Rattle.rtps_json.specs.JsonText.{clock_times, tokens_of_member};
 ghost use Rattle.rtps_json.specs.Values.{value_json};
-ghost use Rattle.rtps_page.specs.Joining.{joined_in, joined_json, joined_member};
+ghost use Rattle.rtps_page.specs.Joining.{joined_in, joined_json, joined_member, joining_json};
 
 use json::Writer;
 use rtps_evidence::{Explanation, Location};
@@ -37,6 +38,21 @@ fn joined_value(joined: Option<Location>, clock: Clock<'_>) -> Made<Value>
     Ok(array(values))
 }
 
+/// Appends where the reader of a row joins.
+fn push_joined(
+    writer: &mut Writer,
+    text: &mut String,
+    clock: Clock<'_>,
+    row: &Explanation<'_>,
+) -> Result<(), AllocError>
+    ensures tokens { OnOk result (writer.new.tokens
+        ≡ writer.old.tokens ++ json_tokens (joining_json (clock_times clock.entry) (explanation_value row.now))) }
+    ensures before { writer.new.before ≡ writer.old.before }
+{
+    let joined = joined_value(joined_of(row), clock)?;
+    push_value(writer, text, &joined)
+}
+
 /// Appends where the reader of each row joins.
 pub(crate) fn push_all_joined(
     writer: &mut Writer,
@@ -51,8 +67,7 @@ pub(crate) fn push_all_joined(
     writer.key("joined")?;
     writer.begin_array()?;
     for row in rows {
-        let joined = joined_value(joined_of(row), clock)?;
-        push_value(writer, text, &joined)?;
+        push_joined(writer, text, clock, row)?;
     }
     writer.end_array()
 }

@@ -1,4 +1,5 @@
 ghost use Rattle.std.specs.Prelude.{◌≡◌, ◌++◌, IfOk, OnOk};
+ghost use Rattle.json.specs.Tree.{json_tokens};
 ghost use Rattle.rtps_discovery.specs.Endpoint.{endpoint_value};
 ghost use Rattle.rtps_json.specs.JsonText.{tokens_of_member};
 ghost use Rattle.rtps_json.specs.Values.{value_json};
@@ -9,7 +10,7 @@ use rtps_discovery::{Directory, Endpoint};
 use rtps_ids::Memory;
 use rtps_json::{Made, Value, name, object, push_value};
 use rtps_lines::{durability_name, reliability_name, side_name};
-use std::alloc::Global;
+use std::alloc::{AllocError, Global};
 
 fn endpoint_object(endpoint: &Endpoint<'_>, alloc: Global) -> Made<Value>
     ensures { IfOk result (λ value. value_json value ≡ endpoint_json (endpoint_value endpoint.now)) }
@@ -33,6 +34,19 @@ fn endpoint_object(endpoint: &Endpoint<'_>, alloc: Global) -> Made<Value>
     Ok(object(members))
 }
 
+fn push_endpoint(
+    alloc: Global,
+    writer: &mut Writer,
+    text: &mut String,
+    endpoint: &Endpoint<'_>,
+) -> Result<(), AllocError>
+    ensures tokens { OnOk result (writer.new.tokens ≡ writer.old.tokens ++ json_tokens (endpoint_json (endpoint_value endpoint.now))) }
+    ensures before { writer.new.before ≡ writer.old.before }
+{
+    let object = endpoint_object(endpoint, alloc)?;
+    push_value(writer, text, &object)
+}
+
 pub(crate) fn push_directory(
     alloc: Global,
     writer: &mut Writer,
@@ -47,8 +61,7 @@ pub(crate) fn push_directory(
     writer.key("endpoints")?;
     writer.begin_array()?;
     for endpoint in &endpoints {
-        let object = endpoint_object(endpoint, alloc)?;
-        push_value(writer, text, &object)?;
+        push_endpoint(alloc, writer, text, endpoint)?;
     }
     writer.end_array()?;
     Ok(())
