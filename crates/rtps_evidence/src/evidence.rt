@@ -81,8 +81,7 @@ impl<'p> Found<'p> {
 
     /// The same, with the octets of payloads in an arena.
     fn kept<'k>(self, arena: &'k Bump) -> Result<Found<'k>, Memory>
-        ensures evidence { IfOk result (λ kept. explanation.evidence_value kept.evidence ≡ explanation.evidence_value self.entry.evidence) }
-        ensures lost { IfOk result (λ kept. kept.lost ≡ self.entry.lost) }
+        ensures { IfOk result (λ kept. (explanation.evidence_value kept.evidence ≡ explanation.evidence_value self.entry.evidence) × (kept.lost ≡ self.entry.lost)) }
     {
         let Found { evidence, lost } = self;
         let evidence = Evidence {

@@ -12,6 +12,7 @@ ghost use Rattle.rtps_evidence.specs.UnansweredLaw as unanswered_law;
 
 use rtps_audit::laws::{first_datagrams_say_the_same, has_no_two_verdicts};
 use rtps_discovery::laws::one_map;
+use rtps_fragments::laws::one_report_heard;
 
 /// Where a claim of a number that is asked for stands at its place, and no act of an earlier datagram has a word for that
 /// number, there is no run.
@@ -91,7 +92,7 @@ pub fn rows_are_reported()
     ensures { explanation.RowsAreReported }
 {
     one_map();
-    has_no_two_verdicts();
+    one_report_heard();
 }
 
 /// What an index takes in is explained in one way, and so is a recording.

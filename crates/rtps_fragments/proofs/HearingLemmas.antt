@@ -77,7 +77,7 @@ piece_is value well =
     ap (λ b. cond b (so (div_ceil (length value.octets) value.shape.fragment)) None) (and_from _ _ (at_least value.first well.first) (and_from _ _ (at_least value.shape.fragment well.fragment) (at_least value.shape.sample well.sample)))
     ∙ ap so (count_is value well)
 
-no_piece : (body : receiver_values.ActBodyValue) → hearing.sends_fragments body ≡ false → hearing.piece_in body ≡ None
+pub no_piece : (body : receiver_values.ActBodyValue) → hearing.sends_fragments body ≡ false → hearing.piece_in body ≡ None
 no_piece body none = grind (arith, nat_tests)
 
 plain_body : (item : wire_values.BodyValue) (body : receiver_values.ActBodyValue) → acts.act_body item ≡ Some body → hearing.sends_fragments body ≡ false

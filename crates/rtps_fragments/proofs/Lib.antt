@@ -20,6 +20,8 @@ pub mod FewFragments
 pub mod SamplesAlone
 pub mod HearingLemmas
 pub mod ViewLemmas
+pub mod PlainPairs
+pub mod SampleReportLemmas
 pub mod KeptLemmas
 pub mod OkLemmas
 pub mod ToldSampleLemmas

@@ -37,10 +37,10 @@ sample_spoken reader act n payload writer named = ap (λ o. receiver_speech.is_p
 
 -- the reader that it is told hears it
 pub sample_heard : (reader : Guid) (act : receiver_values.ActValue) (n : ℕ) (payload : wire_values.PayloadValue) → receiver_speech.is_heard_by (sample_acts.sample_act reader act n payload) reader ≡ true
-sample_heard reader act n payload = both _ _ (own_prefix reader.prefix) (own_entity reader.entity)
+sample_heard reader act n payload = both _ (receiver_speech.is_entity reader.entity receiver_speech.unknown_entity) _ (own_prefix reader.prefix) (own_entity reader.entity)
   where
-    both : (p e : Bool) (a b : Bool) → p ≡ true → e ≡ true → (p && (a || e)) ≡ true
-    both p e a b h h2 = grind (arith, nat_tests)
+    both : (p a e : Bool) → p ≡ true → e ≡ true → (p && (a || e)) ≡ true
+    both p a e h h2 = grind (arith, nat_tests)
 
 -- each act with a piece names its writer
 abbrev pub NamesAll : List sample_acts.PieceAct → Type 0

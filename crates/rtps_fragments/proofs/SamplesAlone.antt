@@ -41,7 +41,7 @@ module _ (writer reader : Guid) (n : ℕ) (shape : Shape) where
 
   own_parts : (acts : List sample_acts.PieceAct) → filter_map (samples.came_of n shape) (sample_acts.heard_from writer reader acts) ≡ filter_map (samples.came_of n shape) (sample_acts.heard_from writer reader (sample_acts.acts_of_sample writer n shape acts))
   own_parts [] = refl
-  own_parts (part ∷ acts) = split part acts ∙ by (has_part part) refl
+  own_parts (part ∷ acts) = split part acts ∙ by (has_part part) refl (own_parts acts)
     where
       came : fragment_delivery.Fragment → Option (ℕ × List ℕ)
       came = samples.came_of n shape
@@ -50,9 +50,10 @@ module _ (writer reader : Guid) (n : ℕ) (shape : Shape) where
       split p ps = ap (filter_map came) (heard-cons (hears_part writer reader) p ps) ∙ filter_map-append came (heard_one (hears_part writer reader p) p.piece) (heard_of (hears_part writer reader) ps)
 
       by : (b : Bool) → has_part part ≡ b
+          → filter_map came (heard_of (hears_part writer reader) acts) ≡ filter_map came (heard_of (hears_part writer reader) (sample_acts.acts_of_sample writer n shape acts))
           → filter_map came (heard_one (hears_part writer reader part) part.piece) ++ filter_map came (heard_of (hears_part writer reader) acts) ≡ filter_map came (heard_of (hears_part writer reader) (cond b (part ∷ sample_acts.acts_of_sample writer n shape acts) (sample_acts.acts_of_sample writer n shape acts)))
-      by true e = ap (λ cs. filter_map came (heard_one (hears_part writer reader part) part.piece) ++ cs) (own_parts acts) ∙ sym (split part (sample_acts.acts_of_sample writer n shape acts))
-      by false e = ap (λ cs. cs ++ filter_map came (heard_of (hears_part writer reader) acts)) (nothing_else part e) ∙ own_parts acts
+      by true e rest = ap (λ cs. filter_map came (heard_one (hears_part writer reader part) part.piece) ++ cs) rest ∙ sym (split part (sample_acts.acts_of_sample writer n shape acts))
+      by false e rest = ap (λ cs. cs ++ filter_map came (heard_of (hears_part writer reader) acts)) (nothing_else part e) ∙ rest
 
 pub samples_stand_alone : laws.SamplesStandAlone
 samples_stand_alone reader before act piece =

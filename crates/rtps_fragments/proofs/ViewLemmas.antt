@@ -124,7 +124,7 @@ module _ (origin reader : Guid) where
 
   pub heard_from_one : (before other : List sample_acts.PieceAct) (acts : List placed.PlacedValue) → IsSame before other → filter (placed.is_from origin) (hearing.heard_behind reader before acts) ≡ hearing.heard_behind reader other (filter (placed.is_from origin) acts)
   heard_from_one before other [] same = refl
-  heard_from_one before other (one ∷ acts) same = by (placed.is_from origin one) refl
+  heard_from_one before other (one ∷ acts) same = by (placed.is_from origin one) refl (λ bs os e. heard_from_one bs os acts e)
     where
       part : sample_acts.PieceAct
       part = hearing.with_piece one.act
@@ -136,10 +136,11 @@ module _ (origin reader : Guid) where
       rest = hearing.heard_behind reader (before ++ part ∷ []) acts
 
       by : (b : Bool) → placed.is_from origin one ≡ b
+          → ((bs os : List sample_acts.PieceAct) → IsSame bs os → filter (placed.is_from origin) (hearing.heard_behind reader bs acts) ≡ hearing.heard_behind reader os (filter (placed.is_from origin) acts))
           → cond b (one ∷ filter (placed.is_from origin) (told before ++ rest)) (filter (placed.is_from origin) (told before ++ rest)) ≡ hearing.heard_behind reader other (cond b (one ∷ filter (placed.is_from origin) acts) (filter (placed.is_from origin) acts))
-      by true e =
-          ap (λ xs. one ∷ xs) (filter-append (placed.is_from origin) (told before) rest ∙ ap₂ ◌++◌ (samples_from one.datagram one true e before part.piece ∙ ap (placed.placed_at one.datagram) (samples_same before other one e same part.piece)) (heard_from_one (before ++ part ∷ []) (other ++ part ∷ []) acts (same_more before other part same)))
-      by false e = filter-append (placed.is_from origin) (told before) rest ∙ ap₂ ◌++◌ (samples_from one.datagram one false e before part.piece) (heard_from_one (before ++ part ∷ []) other acts (same_without before other one e same))
+      by true e go =
+          ap (λ xs. one ∷ xs) (filter-append (placed.is_from origin) (told before) rest ∙ ap₂ ◌++◌ (samples_from one.datagram one true e before part.piece ∙ ap (placed.placed_at one.datagram) (samples_same before other one e same part.piece)) (go (before ++ part ∷ []) (other ++ part ∷ []) (same_more before other part same)))
+      by false e go = filter-append (placed.is_from origin) (told before) rest ∙ ap₂ ◌++◌ (samples_from one.datagram one false e before part.piece) (go (before ++ part ∷ []) other (same_without before other one e same))
 
 -- what a reader hears of the acts of a GUID
 pub heard_of_origin : (origin reader : Guid) (recording : List (List values.ActValue)) → filter (placed.is_from origin) (placed.placed_in (hearing.heard_by reader recording)) ≡ hearing.heard_of reader (filter (placed.is_from origin) (placed.placed_in recording))

@@ -5,6 +5,7 @@ use Rattle.std.specs.Int.{div_ceil}
 use Rattle.std.specs.List.{filter_map, list_any}
 use Rattle.rtps_ids.specs.declared.identity.Guid.{Guid}
 use Rattle.rtps_wire.specs.DataFrag as data_frag
+use Rattle.rtps_receiver.specs.Speech as speech
 use Rattle.rtps_receiver.specs.Values as receiver_values
 use Rattle.rtps_audit.specs.Placed as placed
 use Rattle.rtps_fragments.specs.FragmentDelivery as fragment_delivery
@@ -73,6 +74,31 @@ heard_behind reader before (one ∷ acts) =
 abbrev pub heard_of : Guid → List placed.PlacedValue → List placed.PlacedValue
 heard_of reader acts = heard_behind reader [] acts
 
+-- an act that sends fragments as one for everyone
+abbrev pub to_everyone : receiver_values.ActValue → receiver_values.FragmentValue → receiver_values.ActValue
+to_everyone act value = record act { dest = None; body = receiver_values.ActBodyValue.DataFrag (record value { reader = speech.unknown_entity }) }
+
+-- the act, if it sends some; any other act as it is
+abbrev pub sent_to_everyone : receiver_values.ActValue → receiver_values.ActBodyValue → receiver_values.ActValue
+sent_to_everyone act (receiver_values.ActBodyValue.DataFrag value) = if is_some value.sent then to_everyone act value else act
+sent_to_everyone act (receiver_values.ActBodyValue.Data value) = act
+sent_to_everyone act (receiver_values.ActBodyValue.Heartbeat value) = act
+sent_to_everyone act (receiver_values.ActBodyValue.AckNack value) = act
+sent_to_everyone act (receiver_values.ActBodyValue.Gap value) = act
+sent_to_everyone act (receiver_values.ActBodyValue.NackFrag value) = act
+
+-- the same in its place
+abbrev pub for_everyone : placed.PlacedValue → placed.PlacedValue
+for_everyone one = record { datagram = one.datagram; act = sent_to_everyone one.act one.act.body }
+
+-- the GUID of nobody
+abbrev pub nobody : Guid
+nobody = record { prefix = record { 0 = 0 ∷ 0 ∷ 0 ∷ 0 ∷ 0 ∷ 0 ∷ 0 ∷ 0 ∷ 0 ∷ 0 ∷ 0 ∷ 0 ∷ [] }; entity = speech.unknown_entity }
+
+-- acts in their places as one hears them who hears the fragments for everyone: behind each act the samples that it tells whoever hears all
+abbrev pub overheard_of : List placed.PlacedValue → List placed.PlacedValue
+overheard_of acts = heard_of nobody (map for_everyone acts)
+
 -- what comes to the reader of each sample by these acts
 abbrev pub came_to : Guid → List sample_acts.PieceAct → SampleKey → List (ℕ × List ℕ)
 came_to reader acts key = filter_map (samples.came_of key.number (told_samples.shape_of key)) (sample_acts.heard_from key.writer reader acts)
@@ -82,7 +108,7 @@ abbrev pub HaveCome : Guid → List sample_acts.PieceAct → Makings → Type 0
 HaveCome reader acts makings = making.AreMakings (came_to reader acts) makings
 
 -- This is what the reader hears of these acts in their places.
-pub record IsHearing (reader : Guid) (acts : List placed.PlacedValue) (hearing : Hearing) : Type 0 where
-  pub reader : hearing.reader ≡ reader
-  pub makings : HaveCome reader (map (λ one. with_piece one.act) acts) hearing.makings
-  pub acts : map placed.placed_value hearing.acts.items ≡ heard_of reader acts
+pub record IsHearing (reader : Guid) (sent : List placed.PlacedValue) (hearing : Hearing) : Type 0 where
+  pub own : hearing.reader ≡ reader
+  pub makings : HaveCome reader (map (λ one. with_piece one.act) sent) hearing.makings
+  pub acts : map placed.placed_value hearing.acts.items ≡ heard_of reader sent

@@ -131,6 +131,10 @@ VerdictsStayWithoutFragments =
     (from : ℕ) (writer reader : Guid) (recording : List (List receiver_values.ActValue)) (verdict : Verdict) → hearing.have_fragments (filter (placed.is_from writer) (placed.placed_in recording)) ≡ false
     → run_verdict.IsVerdictFrom from (audit_speech.speech_by writer reader (hearing.heard_by reader recording)) verdict ↔ run_verdict.IsVerdictFrom from (audit_speech.speech_by writer reader recording) verdict
 
+-- acts without fragments are overheard as they are
+abbrev pub OverheardWithoutFragments : Type 0
+OverheardWithoutFragments = (acts : List placed.PlacedValue) → hearing.have_fragments acts ≡ false → hearing.overheard_of acts ≡ acts
+
 -- where neither what a writer said nor what a reader asked sends fragments, that is what the reader hears
 abbrev pub PairsAreHeardWithoutFragments : Type 0
 PairsAreHeardWithoutFragments =

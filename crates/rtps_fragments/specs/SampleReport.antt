@@ -31,6 +31,12 @@ pub record IsReportHeard (from : ℕ) (intake : intake_spec.Intake) (report : Re
 abbrev pub IsSender : Index → Sender → Type 0
 IsSender index sender = (intake : intake_spec.Intake) → index_spec.IsIndexBy intake index → sender.sends ≡ hearing.have_fragments (filter (placed.is_from sender.writer) (placed.placed_in intake.acts))
 
+-- rows of the same pairs that have the verdicts on what their readers hear of the same acts are the same
+abbrev pub RowsHeardAreOne : Type 0
+RowsHeardAreOne =
+    (from : ℕ) (recording : List (List values.ActValue)) (rows others : List Row) → map (λ row. row.pair) rows ≡ map (λ row. row.pair) others
+    → All (IsHeardFrom from recording) rows → All (IsHeardFrom from recording) others → rows ≡ others
+
 -- what is taken in has one such report: the same rows, and the same counts
 abbrev pub HasOneReportHeard : Type 0
 HasOneReportHeard =

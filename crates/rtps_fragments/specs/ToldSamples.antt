@@ -1,6 +1,6 @@
 -- What fragments tell, one act after another. DDSI-RTPS 2.5, 8.3.8.3 "DataFrag". own: it is worked out of what is known of the fragments
 -- alone: their sample, and their octets.
-use Rattle.std.specs.Prelude.{ℕ, Bool, ◌<◌, if◌then◌else◌, List, [], ◌∷◌, ◌++◌, drop, filter, length, map}
+use Rattle.std.specs.Prelude.{ℕ, Bool, ◌<◌, ◌^◌, if◌then◌else◌, List, [], ◌∷◌, ◌++◌, drop, filter, length, map}
 use Rattle.std.specs.List.{flat_map}
 use Rattle.std.specs.Ordering.{bool_cmp, is_eq, nat_cmp, ordering_then}
 use Rattle.std.specs.declared.cmp.Ordering.{Ordering}
@@ -49,11 +49,12 @@ sent_value sent =
       came = heard.came_from sent.fragments.first (data_frag.parts_in sent.key.fragment sent.fragments.count sent.fragments.octets.now);
     }
 
--- The sample has a fragment, fragments have octets, and fragments count from 1.
+-- The sample has a fragment, fragments have octets, and fragments count from 1. There are fewer than 2^63.
 pub record IsSent (sent : SentFragments) : Type 0 where
   pub some : 0 < data_frag.last_fragment (shape_of sent.key)
   pub size : 0 < sent.key.fragment
   pub first : 0 < sent.fragments.first
+  pub few : sent.fragments.count < 2 ^ 63
 
 -- those of one sample
 abbrev pub sent_of : SampleKey → List SentValue → List SentValue

@@ -1,4 +1,4 @@
-ghost use Rattle.std.specs.Prelude.{ℕ, ◌≡◌, ◌==◌, ◌<◌, ◌≤◌, ◌++◌, ◌∷◌, [], if◌then◌else◌, length, map, option_copied, slice_get, suc, List, IfOk, OnOk, Some, None};
+ghost use Rattle.std.specs.Prelude.{ℕ, ◌≡◌, ◌==◌, ◌^◌, ◌<◌, ◌≤◌, ◌++◌, ◌∷◌, [], if◌then◌else◌, length, map, option_copied, slice_get, suc, List, IfOk, OnOk, Some, None};
 ghost use Rattle.std.specs.List.{concat};
 ghost use Rattle.rtps_fragments.specs.Heard as heard;
 ghost use Rattle.rtps_wire.specs.DataFrag as data_frag;
@@ -170,6 +170,7 @@ impl<'a> Heard<'a> {
     fn take_all(&mut self, shape: Shape, fragments: &FragmentRun<'a>) -> Result<(), Memory>
         requires size { 0 < shape.fragment }
         requires first { 0 < fragments.now.first }
+        requires few { fragments.now.count < 2 ^ 63 }
         ensures { OnOk result ((came : List (ℕ × List ℕ)) → heard.IsHeard (data_frag.last_fragment shape) came self.old
             → heard.IsHeard (data_frag.last_fragment shape) (came ++ heard.came_from fragments.now.first (data_frag.parts_in shape.fragment fragments.now.count fragments.now.octets.now)) self.new) }
     {

@@ -156,7 +156,7 @@ impl<'a> Hearing<'a> {
 
     /// Hears one act more. After `Memory` it is of no use.
     fn hear(&mut self, arena: &'a Bump, placed: &Placed<'a>) -> Result<(), Memory>
-        ensures acts { OnOk result ((acts : List placed_spec.PlacedValue) → hearing_spec.IsHearing self.old.reader acts self.old
+        ensures heard { OnOk result ((acts : List placed_spec.PlacedValue) → hearing_spec.IsHearing self.old.reader acts self.old
             → hearing_spec.IsHearing self.old.reader (acts ++ placed_spec.placed_value placed.now ∷ []) self.new) }
         ensures reader { self.new.reader ≡ self.old.reader }
     {

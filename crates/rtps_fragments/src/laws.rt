@@ -90,14 +90,20 @@ pub fn verdicts_stay_without_fragments()
     verdicts_follow_what_is_said();
 }
 
+/// Acts without fragments are overheard as they are.
+pub fn acts_are_overheard_without_fragments()
+    ensures { laws.OverheardWithoutFragments }
+{}
+
 /// Where neither what a writer said nor what a reader asked sends fragments, that is what the reader hears.
 pub fn pairs_are_heard_without_fragments()
     ensures { laws.PairsAreHeardWithoutFragments }
 {}
 
-/// What is taken in has one report by what each reader hears.
+/// What is taken in has one report by what each reader hears: rows of the same pairs are the same.
 pub fn one_report_heard()
-    ensures { sample_report.HasOneReportHeard }
+    ensures rows { sample_report.RowsHeardAreOne }
+    ensures report { sample_report.HasOneReportHeard }
 {
     one_map();
     has_no_two_verdicts();

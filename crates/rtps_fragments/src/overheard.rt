@@ -1,0 +1,59 @@
+ghost use Rattle.std.specs.Prelude.{◌≡◌, map, IfOk};
+ghost use Rattle.rtps_audit.specs.Placed as placed_spec;
+ghost use Rattle.rtps_fragments.specs.Hearing as hearing;
+
+use crate::hearing::heard_of;
+use bumpalo::Bump;
+use rtps_audit::Placed;
+use rtps_ids::{EntityId, Guid, GuidPrefix, Memory};
+use rtps_receiver::{FragmentBody, Spoken, SpokenBody};
+use std::alloc::Global;
+
+/// The entity id that names every reader (DDSI-RTPS 2.5, 9.3.1.2 "Mapping of the EntityId_t", ENTITYID_UNKNOWN).
+const EVERY_READER: EntityId = EntityId([0; 4]);
+
+/// A reader that hears what is for everyone.
+const NOBODY: Guid = Guid {
+    prefix: GuidPrefix([0; 12]),
+    entity: EVERY_READER,
+};
+
+/// An act that sends fragments as one for everyone, and any other act as it is.
+fn for_everyone<'a>(placed: &Placed<'a>) -> Placed<'a>
+    ensures { placed_spec.placed_value result ≡ hearing.for_everyone (placed_spec.placed_value placed.now) }
+{
+    let SpokenBody::DataFrag(fragment) = placed.act.body else {
+        return *placed;
+    };
+    if fragment.sent.is_none() {
+        return *placed;
+    }
+    Placed {
+        datagram: placed.datagram,
+        act: Spoken {
+            dest: None,
+            body: SpokenBody::DataFrag(FragmentBody {
+                reader: EVERY_READER,
+                ..fragment
+            }),
+            ..placed.act
+        },
+    }
+}
+
+/// Acts as one hears them who hears the fragments for whomever: each, and behind it the samples that it tells. They stand in the arena.
+/// `Memory` is answered where there is none for them.
+pub fn overheard_of<'a>(
+    alloc: Global,
+    arena: &'a Bump,
+    acts: &[Placed<'a>],
+) -> Result<&'a [Placed<'a>], Memory>
+    ensures { IfOk result (λ heard. map placed_spec.placed_value heard.now ≡ hearing.overheard_of (map placed_spec.placed_value acts.now)) }
+{
+    let mut all = Vec::with_capacity(alloc, acts.len())?;
+    for placed in acts {
+        all.push(for_everyone(placed))?;
+    }
+    let all = arena.try_alloc_slice_copy(&all)?;
+    heard_of(alloc, arena, all, NOBODY)
+}
