@@ -13,13 +13,13 @@ use std::alloc::Global;
 const EVERY_READER: EntityId = EntityId([0; 4]);
 
 /// A reader that hears what is for everyone.
-const NOBODY: Guid = Guid {
+pub(crate) const NOBODY: Guid = Guid {
     prefix: GuidPrefix([0; 12]),
     entity: EVERY_READER,
 };
 
 /// An act that sends fragments as one for everyone, and any other act as it is.
-fn for_everyone<'a>(placed: &Placed<'a>) -> Placed<'a>
+pub(crate) fn for_everyone<'a>(placed: &Placed<'a>) -> Placed<'a>
     ensures { placed_spec.placed_value result ≡ hearing.for_everyone (placed_spec.placed_value placed.now) }
 {
     let SpokenBody::DataFrag(fragment) = placed.act.body else {
