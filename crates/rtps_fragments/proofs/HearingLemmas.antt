@@ -34,7 +34,7 @@ use Rattle.rtps_fragments.proofs.IndexSteps.{gathered_from}
 
 -- more than all but one of so many fragments, and no more than all
 times_less : (f k q : ℕ) → q < k → q * f + f ≤ k * f
-times_less f k q lt = let step : q * f + f ≡ suc q * f = omega arith in let le = mul-le-mul_right {suc q} {k} f lt in omega (arith, step, le)
+times_less f k q lt = let step : q * f + f ≡ suc q * f = omega arith in let le = mul-le-mul_right {m = suc q} {n = k} f lt in omega (arith, step, le)
 
 ceil_is : (f k octets : ℕ) → 0 < f → octets ≤ k * f → k * f < octets + f → div_ceil octets f ≡ k
 ceil_is f k octets some within past =
@@ -51,7 +51,7 @@ ceil_is f k octets some within past =
 octets_within : (s f before k : ℕ) → 0 < f → 0 < s → 0 < k → before + k ≤ (s + f - 1) / f → (min s ((before + k) * f) - before * f ≤ k * f) × (k * f < (min s ((before + k) * f) - before * f) + f)
 octets_within s f before k some sample any within =
     let all = div-mul-le_self (s + f - 1) f in
-    let ends = mul-le-mul_right {before + k} {(s + f - 1) / f} f within in
+    let ends = mul-le-mul_right {m = before + k} {n = (s + f - 1) / f} f within in
     let parts : (before + k) * f ≡ before * f + k * f = omega arith in
     (omega (arith, parts), omega (arith, all, ends, parts))
 

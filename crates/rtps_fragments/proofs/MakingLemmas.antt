@@ -1,12 +1,13 @@
 -- What is kept of samples in the making, with fragments more.
 use Rattle.std.proofs.lemmas.Grind.{common_steps}
 use Rattle.std.proofs.lemmas.Bool.Decides.{nat_tests}
-use Rattle.std.proofs.Common.{◌≡◌, ℕ, Bool, true, false, cond, List, [], ◌∷◌, ◌++◌, Option, refl, sym, ◌∙◌, ap, subst, inl, inr, append-nil, arith}
-use Rattle.std.specs.BTreeMap.{get}
+use Rattle.std.proofs.Common.{◌≡◌, ℕ, Bool, true, false, cond, List, [], ◌∷◌, ◌++◌, Option, Some, None, refl, sym, ◌∙◌, ap, subst, inl, inr, append-nil, arith}
+use Rattle.std.specs.BTreeMap.{BTreeMap, get}
 use Rattle.std.specs.BTreeSet.{contains}
 use Rattle.std.specs.Ordering.{is_eq}
 use Rattle.std.proofs.lemmas.Bool.{cases_Bool}
 use Rattle.rtps_wire.specs.DataFrag as data_frag
+use Rattle.rtps_fragments.specs.Heard as heard_spec
 use Rattle.rtps_fragments.specs.Making as making_spec
 use Rattle.rtps_fragments.specs.Samples as samples
 use Rattle.rtps_fragments.specs.ToldSamples as told_samples
@@ -29,6 +30,17 @@ same_came one other makings same are key = subst (λ cs. making_spec.HasCame key
 -- what came of the sample of these fragments
 pub came_here : (came : SampleKey → List (ℕ × List ℕ)) (sent : told_samples.SentValue) → making_spec.came_more came sent sent.key ≡ came sent.key ++ sent.came
 came_here came sent = ap (λ b. cond b (came sent.key ++ sent.came) (came sent.key)) (own_sample sent.key)
+
+-- where nothing is kept of a sample, nothing came
+pub nothing_came : (key : SampleKey) (kept : Option Heard) (came : List (ℕ × List ℕ)) → kept ≡ None → making_spec.HasCame key came kept → came ≡ []
+nothing_came key kept came none was = subst (making_spec.HasCame key came) none was
+
+-- fragments of a sample of which nothing came
+pub begun : (key : SampleKey) (old new : BTreeMap SampleKey Heard) (fresh heard : Heard) (came more : List (ℕ × List ℕ)) → get told_samples.sample_cmp old key ≡ None → get told_samples.sample_cmp new key ≡ Some heard
+    → ((before : List (ℕ × List ℕ)) → heard_spec.IsHeard (data_frag.last_fragment (told_samples.shape_of key)) before fresh → heard_spec.IsHeard (data_frag.last_fragment (told_samples.shape_of key)) (before ++ more) heard)
+    → heard_spec.IsHeard (data_frag.last_fragment (told_samples.shape_of key)) [] fresh → making_spec.HasCame key came (get told_samples.sample_cmp old key) → making_spec.HasCame key (came ++ more) (get told_samples.sample_cmp new key)
+begun key old new fresh heard came more none put takes starts was =
+    subst (making_spec.HasCame key (came ++ more)) (sym put) (subst (λ cs. heard_spec.IsHeard (data_frag.last_fragment (told_samples.shape_of key)) (cs ++ more) heard) (sym (nothing_came key (get told_samples.sample_cmp old key) came none was)) (takes [] starts))
 
 -- one sample more
 pub makings_more : (came : SampleKey → List (ℕ × List ℕ)) (sent : told_samples.SentValue) (old new : Makings) → making_spec.AreMakings came old

@@ -35,7 +35,7 @@ pub verdict_stays : laws.FragmentVerdictOfActs → laws.ActsStayWithoutPieces �
 verdict_stays of_acts stay from writer reader recording verdict none =
     subst (λ acts. (fragment_verdict.IsFragmentVerdictFrom from (sample_acts.fragment_speech_of writer reader recording) verdict → run_verdict.IsVerdictFrom from (audit_speech.speech_by writer reader acts) verdict)
     × (run_verdict.IsVerdictFrom from (audit_speech.speech_by writer reader acts) verdict → fragment_verdict.IsFragmentVerdictFrom from (sample_acts.fragment_speech_of writer reader recording) verdict))
-    (stay recording none)
+    (stay reader recording none)
     (of_acts from writer reader recording verdict (no_parts recording none))
 
 -- ---- pieces of no sample

@@ -138,7 +138,7 @@ impl<'a> Heard<'a> {
         requires size { 0 < shape.fragment }
         requires whole { data_frag.last_fragment shape ≤ heard.kept_front self.now }
         ensures { IfOk result (λ sample. (came : List (ℕ × List ℕ)) (parts : List (List ℕ)) → heard.IsHeard (data_frag.last_fragment shape) came self.now
-            → samples.firsts_of came (data_frag.last_fragment shape) ≡ Some parts → sample.now ≡ concat (heard.with_part parts other.0 other.1.now)) }
+            → samples.firsts_of came (data_frag.last_fragment shape) ≡ Some parts → sample.now ≡ concat (heard.with_part parts other.entry.0 other.entry.1.now)) }
     {
         let mut sample = Vec::with_capacity(arena, shape.sample as usize)?;
         for place in 0..shape.last_fragment() {

@@ -125,11 +125,11 @@ impl<'a> Hearing<'a> {
             ++ placed_spec.placed_at placed.now.datagram (map (λ one. sample_acts.sample_act self.old.reader (values.spoken_value placed.now.act) number (told_samples.told_value one).payload) told.now)) }
     {
         for one in told {
-            let act = told_act(self.reader, &placed.act, number, one);
-            self.acts.push(Placed {
+            let told = Placed {
                 datagram: placed.datagram,
-                act,
-            })?;
+                act: told_act(self.reader, &placed.act, number, one),
+            };
+            self.acts.extend_from_slice(slice::from_ref(&told))?;
         }
         Ok(())
     }

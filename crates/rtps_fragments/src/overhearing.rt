@@ -2,7 +2,6 @@ ghost use Rattle.std.specs.Prelude.{◌≡◌, ◌++◌, ◌∷◌, [], map, All
 ghost use Rattle.rtps_fragments.specs.Making as making;
 ghost use Rattle.rtps_fragments.specs.ToldSamples as told_samples;
 
-use crate::announcements::is_built_in;
 use crate::making::Makings;
 use crate::piece::SentFragments;
 use crate::told_sample::ToldSample;
@@ -45,12 +44,7 @@ impl<'a> Overhearing<'a> {
         ensures { OnOk result ((before : List told_samples.SentValue) → making.IsOverhearing before self.old → making.IsOverhearing (before ++ told_samples.sent_value sent.now ∷ []) self.new
             × (map told_samples.told_value told.new.items ≡ map told_samples.told_value told.old.items ++ told_samples.overheard_behind before (told_samples.sent_value sent.now))) }
     {
-        let whole = if is_built_in(sent.key.writer.entity) {
-            self.makings.tell(arena, sent, told)?
-        } else {
-            self.makings.take(sent)?
-        };
-        if whole {
+        if self.makings.note(arena, sent, told)? {
             self.whole.insert(key_number(&sent.key))?;
         }
         Ok(())
