@@ -76,7 +76,6 @@ pub(crate) struct Found<'a> {
 }
 
 impl<'p> Found<'p> {
-    ghost use Rattle.std.specs.Prelude.{◌≡◌, IfOk};
     ghost use Rattle.rtps_evidence.specs.Explanation as explanation;
 
     /// The same, with the octets of payloads in an arena.
@@ -131,7 +130,7 @@ impl<'a> Evidence<'a> {
             from,
             in_spans: false,
         };
-        let judgement = Judgement::of(index, pair, &[], extent);
+        let judgement = Judgement::of(index, pair, &[], &extent);
         let found = Evidence::of_judged(alloc, &sides, &judgement)?;
         Ok(found.evidence)
     }

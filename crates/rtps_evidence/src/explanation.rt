@@ -14,6 +14,7 @@ use crate::other_side::Sides;
 use crate::times::Times;
 use bumpalo::Bump;
 use rtps_audit::{Counts, Index, Row, Watch};
+use rtps_discovery::laws::one_map;
 use rtps_discovery::{Directory, Pair};
 use rtps_ids::{Guid, Memory};
 use std::alloc::Global;
@@ -97,11 +98,13 @@ pub fn explain_pairs<'a, P: Watch>(
         → All (report.IsJudgedFrom extent.from intake.acts) known.now
         → IfOk result (λ found. explanation.AreExplained extent.in_spans extent.from beside intake pairs.now found.rows.items (map kinds.lost_value found.lost.items)) }
 {
+    // What an index took in announces one directory.
+    one_map();
     let directory = sides.index.directory();
     let mut rows = Vec::with_capacity(alloc, pairs.len())?;
     let mut lost = Vec::with_capacity(alloc, pairs.len())?;
     for pair in pairs {
-        let judgement = Judgement::of(sides.index, *pair, known, extent);
+        let judgement = Judgement::of(sides.index, *pair, known, &extent);
         let found = Evidence::of_judged(alloc, sides, &judgement)?;
         rows.push(explanation_of(directory, *pair, found.evidence, rows.len()))?;
         lost.push(found.lost)?;

@@ -28,8 +28,8 @@ pub(crate) struct Judgement {
 }
 
 /// What the row of a pair is by: its span, where rows are in spans, or else the whole recording.
-pub(crate) fn span_of(index: &Index<'_>, pair: Pair, extent: Extent) -> Span
-    ensures { (intake : intake.Intake) → index_spec.IsIndexBy intake index.now → spans.IsExtent extent.in_spans extent.from pair intake result }
+pub(crate) fn span_of(index: &Index<'_>, pair: Pair, extent: &Extent) -> Span
+    ensures { (intake : intake.Intake) → index_spec.IsIndexBy intake index.now → spans.IsExtent extent.now.in_spans extent.now.from pair intake result }
 {
     if extent.in_spans {
         Span::of(index, pair, extent.from)
@@ -65,18 +65,19 @@ fn verdict_in(span: &Span, known: Option<Verdict>, from: SeqNum) -> Option<Verdi
 
 impl Judgement {
     /// What the row of a pair is by, where these are rows of a report by the same numbers: what they say need not be found again.
-    pub(crate) fn of(index: &Index<'_>, pair: Pair, known: &[Row], extent: Extent) -> Judgement
+    pub(crate) fn of(index: &Index<'_>, pair: Pair, known: &[Row], extent: &Extent) -> Judgement
         ensures pair { result.pair ≡ pair }
-        ensures in_spans { result.in_spans ≡ extent.in_spans }
-        ensures extent { (intake : intake.Intake) → index_spec.IsIndexBy intake index.now → spans.IsExtent extent.in_spans extent.from pair intake result.span }
-        ensures known { (acts : List (List values.ActValue)) → All (report.IsJudgedFrom extent.from acts) known.now → IfSome result.known (evidence.IsVerdictIn result.span pair acts) }
+        ensures in_spans { result.in_spans ≡ extent.now.in_spans }
+        ensures extent { (intake : intake.Intake) → index_spec.IsIndexBy intake index.now → spans.IsExtent extent.now.in_spans extent.now.from pair intake result.span }
+        ensures known { (acts : List (List values.ActValue)) → All (report.IsJudgedFrom extent.now.from acts) known.now → IfSome result.known (evidence.IsVerdictIn result.span pair acts) }
     {
         let span = span_of(index, pair, extent);
+        let known = verdict_in(&span, verdict_among(known, pair), extent.from);
         Judgement {
             pair,
             span,
             in_spans: extent.in_spans,
-            known: verdict_in(&span, verdict_among(known, pair), extent.from),
+            known,
         }
     }
 }

@@ -100,7 +100,7 @@ pub fn recorded_of(
 ) -> Result<Recorded, Memory>
     ensures { (intake : intake.Intake) → index_spec.IsIndexBy intake index.now → IfOk result (recorded_spec.IsRecordedBy extent.in_spans extent.from pair intake) }
 {
-    let span = span_of(index, pair, extent);
+    let span = span_of(index, pair, &extent);
     let sent = Said::until(index, pair, span.until);
     let from = span.from.get();
     let behind = greatest_sent(sent.acts, pair.writer) + 1;
@@ -134,7 +134,7 @@ pub fn arrived_of(
     ensures { (intake : intake.Intake) (beside : other_side.Beside) → other_side.AreSides intake beside sides.now
         → IfOk result (recorded_spec.IsArrivedBy extent.in_spans extent.from beside.other pair intake) }
 {
-    let span = span_of(sides.index, pair, extent);
+    let span = span_of(sides.index, pair, &extent);
     let mut arrivals = Arrivals::of(alloc, sides, pair)?;
     let way = arrivals.way;
     if !arrivals.is_held {

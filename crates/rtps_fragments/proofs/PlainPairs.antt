@@ -53,6 +53,21 @@ pairs_are_heard_without_fragments pair recording said is acts asks = record {
   asks = is.asks ∙ sym (origin_same pair.reader pair.reader recording (ap hearing.have_fragments (sym is.asks) ∙ asks));
 }
 
+as_sent : (one : placed.PlacedValue) → hearing.sends_fragments one.act.body ≡ false → hearing.for_everyone one ≡ one
+as_sent one none = ap (λ (act : values.ActValue). let at : placed.PlacedValue = record { datagram = one.datagram; act = act } in at) (by one.act.body none)
+  where
+    by : (body : values.ActBodyValue) → hearing.sends_fragments body ≡ false → hearing.sent_to_everyone one.act body ≡ one.act
+    by body plain = grind (arith, nat_tests)
+
+all_as_sent : (acts : List placed.PlacedValue) → hearing.have_fragments acts ≡ false → map hearing.for_everyone acts ≡ acts
+all_as_sent [] none = refl
+all_as_sent (one ∷ acts) none =
+    ap (λ (o : placed.PlacedValue). o ∷ map hearing.for_everyone acts) (as_sent one (none_first (hearing.sends_fragments one.act.body) (hearing.have_fragments acts) none))
+    ∙ ap (λ (l : List placed.PlacedValue). one ∷ l) (all_as_sent acts (none_rest (hearing.sends_fragments one.act.body) (hearing.have_fragments acts) none))
+
+pub overheard_without_fragments : laws.OverheardWithoutFragments
+overheard_without_fragments acts none = ap (hearing.heard_of hearing.nobody) (all_as_sent acts none) ∙ heard_same hearing.nobody [] acts none
+
 -- ---- the same acts and answers say the same
 
 answered_base : (d at e other : ℕ) (o : Option ℕ) (base : ℕ) → placed.answer_at d at o ≡ Some (record { datagram = e; at = other; base = pos base }) → o ≡ Some base

@@ -1,5 +1,7 @@
 -- What is taken in has one report by what each reader hears, and rows that are judged again one at a time.
-use Rattle.std.proofs.Common.{◌≡◌, ◌∙◌, ℕ, List, [], ◌∷◌, length, map, refl, ap, subst, sym}
+use Rattle.std.proofs.lemmas.Grind.{common_steps}
+use Rattle.std.proofs.lemmas.Bool.Decides.{nat_tests}
+use Rattle.std.proofs.Common.{◌≡◌, ◌∙◌, ℕ, ◌+◌, ◌<◌, List, [], ◌∷◌, ◌++◌, get_or, length, map, take, refl, ap, arith, subst, sym}
 use Rattle.std.specs.Prelude.{All}
 use Rattle.std.proofs.lemmas.List.Elements.{All-head, All-tail}
 use Rattle.rtps_receiver.specs.Values as values
@@ -44,3 +46,8 @@ module _ (no_two : audit_laws.HasNoTwoVerdicts) where
       let pairs = is.pairs ∙ ap (λ (d : directory.DirectoryValue). matching.reliable_pairs (matching.matches_among (directory.settled_in d.endpoints))) same ∙ sym also.pairs in
       let counts = is.counts ∙ ap (λ (d : directory.DirectoryValue). report.counts_of intake (length (directory.unsettled_in d.endpoints))) same ∙ sym also.counts in
       (rows_are_one from intake.acts one.rows.items other.rows.items pairs is.judged also.judged, counts)
+
+-- rows of the same pairs, one more at a time
+pub rows_more : (old new : List Row) (x : Row) (rows : List Row) (i : ℕ) (d : Row) → i < length rows → new ≡ old ++ x ∷ [] → x.pair ≡ (get_or rows i d).pair
+    → map (λ (row : Row). row.pair) old ≡ map (λ (row : Row). row.pair) (take i rows) → map (λ (row : Row). row.pair) new ≡ map (λ (row : Row). row.pair) (take (i + 1) rows)
+rows_more old new x rows i d lt is pair so_far = grind (arith, nat_tests, common_steps)

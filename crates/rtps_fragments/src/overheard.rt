@@ -8,6 +8,7 @@ use rtps_audit::Placed;
 use rtps_ids::{EntityId, Guid, GuidPrefix, Memory};
 use rtps_receiver::{FragmentBody, Spoken, SpokenBody};
 use std::alloc::Global;
+use std::slice;
 
 /// The entity id that names every reader (DDSI-RTPS 2.5, 9.3.1.2 "Mapping of the EntityId_t", ENTITYID_UNKNOWN).
 const EVERY_READER: EntityId = EntityId([0; 4]);
@@ -52,7 +53,8 @@ pub fn overheard_of<'a>(
 {
     let mut all = Vec::with_capacity(alloc, acts.len())?;
     for placed in acts {
-        all.push(for_everyone(placed))?;
+        let one = for_everyone(placed);
+        all.extend_from_slice(slice::from_ref(&one))?;
     }
     let all = arena.try_alloc_slice_copy(&all)?;
     heard_of(alloc, arena, all, NOBODY)

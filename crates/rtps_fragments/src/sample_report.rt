@@ -1,7 +1,9 @@
-ghost use Rattle.std.specs.Prelude.{◌≡◌, All, IfOk, IfSome, OnOk, map};
+ghost use Rattle.std.specs.Prelude.{◌≡◌, All, IfOk, IfSome, filter, map};
 ghost use Rattle.rtps_audit.specs.Index as index_spec;
 ghost use Rattle.rtps_audit.specs.Intake as intake_spec;
+ghost use Rattle.rtps_audit.specs.Placed as placed;
 ghost use Rattle.rtps_audit.specs.Report as report_spec;
+ghost use Rattle.rtps_fragments.specs.Hearing as hearing;
 ghost use Rattle.rtps_fragments.specs.SampleReport as sample_report;
 
 use crate::hearing::{have_fragments, heard_said};
@@ -33,40 +35,51 @@ fn sender_of(index: &Index<'_>, writer: Guid, last: Option<Sender>) -> Sender
     }
 }
 
-/// A row by what its reader hears.
-fn row_heard(alloc: Global, index: &Index<'_>, row: Row, from: SeqNum) -> Result<Row, Memory>
+/// A row of this verdict by the acts as they are sent, by what its reader hears, where it is known whether its writer sends fragments.
+fn row_heard(
+    alloc: Global,
+    index: &Index<'_>,
+    row: Row,
+    sends: bool,
+    from: SeqNum,
+) -> Result<Row, Memory>
+    requires { (intake : intake_spec.Intake) → index_spec.IsIndexBy intake index.now
+        → sends ≡ hearing.have_fragments (filter (placed.is_from row.pair.writer) (placed.placed_in intake.acts)) }
     ensures pair { IfOk result (λ heard. heard.pair ≡ row.pair) }
-    ensures judged { (intake : intake_spec.Intake) → index_spec.IsIndexBy intake index.now → IfOk result (sample_report.IsHeardFrom from intake.acts) }
+    ensures judged { (intake : intake_spec.Intake) → index_spec.IsIndexBy intake index.now → report_spec.IsJudgedFrom from intake.acts row
+        → IfOk result (sample_report.IsHeardFrom from intake.acts) }
 {
-    let arena = Bump::new(alloc);
+    verdicts_stay_without_fragments();
     let pair = row.pair;
+    if !sends {
+        return Ok(row);
+    }
+    let arena = Bump::new(alloc);
     let said = heard_said(alloc, &arena, Said::until(index, pair, None), pair)?;
     let verdict = said.judge_from(alloc, pair, FirstAsked::of(from))?;
     Ok(Row { pair, verdict })
 }
 
-/// Judges those of these rows again whose writer sends fragments. They are by writer. After `Memory` they are of no use.
-fn hear_rows(
+/// These rows, which are by writer, by what their readers hear.
+fn rows_heard(
     alloc: Global,
     index: &Index<'_>,
-    rows: &mut Vec<Row>,
+    rows: &[Row],
     from: SeqNum,
-) -> Result<(), Memory>
-    ensures pairs { OnOk result (map (λ row. row.pair) rows.new.items ≡ map (λ row. row.pair) rows.old.items) }
-    ensures judged { OnOk result ((intake : intake_spec.Intake) → index_spec.IsIndexBy intake index.now → All (report_spec.IsJudgedFrom from intake.acts) rows.old.items
-        → All (sample_report.IsHeardFrom from intake.acts) rows.new.items) }
+) -> Result<Vec<Row>, Memory>
+    ensures pairs { IfOk result (λ heard. map (λ row. row.pair) heard.items ≡ map (λ row. row.pair) rows.now) }
+    ensures judged { (intake : intake_spec.Intake) → index_spec.IsIndexBy intake index.now → All (report_spec.IsJudgedFrom from intake.acts) rows.now
+        → IfOk result (λ heard. All (sample_report.IsHeardFrom from intake.acts) heard.items) }
 {
-    verdicts_stay_without_fragments();
+    let mut heard = Vec::with_capacity(alloc, rows.len())?;
     let mut last = None;
-    for place in 0..rows.len() {
-        let row = rows[place];
+    for row in rows {
         let sender = sender_of(index, row.pair.writer, last);
-        if sender.sends {
-            rows[place] = row_heard(alloc, index, row, from)?;
-        }
+        let own = row_heard(alloc, index, *row, sender.sends, from)?;
+        heard.push(own)?;
         last = Some(sender);
     }
-    Ok(())
+    Ok(heard)
 }
 
 /// The report on what an index took in by the numbers from `from` on, as [`Index::report_from`] answers it, but each row is by what its reader
@@ -80,7 +93,10 @@ pub fn report_with_samples<P: Watch>(
 ) -> Result<Report, Memory>
     ensures { (intake : intake_spec.Intake) → index_spec.IsIndexBy intake index.now → IfOk result (sample_report.IsReportHeard from intake) }
 {
-    let mut report = index.report_from(from, watch)?;
-    hear_rows(alloc, index, &mut report.rows, from)?;
-    Ok(report)
+    let report = index.report_from(from, watch)?;
+    let rows = rows_heard(alloc, index, &report.rows, from)?;
+    Ok(Report {
+        rows,
+        counts: report.counts,
+    })
 }

@@ -72,12 +72,11 @@ fn note_overheard<'a>(
         → telling.IsToldBy announcing (before ++ map (λ placed. placed.act) (hearing.overheard_of (map placed.placed_value acts.now))) told.new) }
 {
     acts_are_overheard_without_fragments();
-    if have_fragments(acts) {
-        let heard = overheard_of(alloc, arena, acts)?;
-        note_writer(told, introductions, heard)
-    } else {
-        note_writer(told, introductions, acts)
+    if !have_fragments(acts) {
+        return note_writer(told, introductions, acts);
     }
+    let heard = overheard_of(alloc, arena, acts)?;
+    note_writer(told, introductions, heard)
 }
 
 /// What the writers that tell of nodes tell, one writer after another.

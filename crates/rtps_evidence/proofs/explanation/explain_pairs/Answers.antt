@@ -26,7 +26,7 @@ loop-pair-preserved g c =
       pairs = pairs_more c.loop-pair.rows.items _ _ c.args.pairs.now c.loop-pair.pair-index _ c.loop-pair-test.true c.in_ok-push.ensures.items row_is.pair c.loop-pair.invariant.pairs;
       places = places_more c.loop-pair.rows.items _ _ c.in_ok-push.ensures.items (row_is.place ∙ c.len.ensures ∙ c.loop-pair.rows.ok.0) c.loop-pair.invariant.places;
       named = λ intake is.
-          let here = c.one_map.ensures.unique (intake_spec.acts_together intake.announcing) c.directory.result.now index.directory (c.directory.ensures intake is) is.directory in
+          let here = c.one_map.ensures.unique (intake_spec.acts_together intake.announcing) c.directory-directory.result.now index.directory (c.directory-directory.ensures intake is) is.directory in
           subst (All (explanation.IsNamed index.directory.endpoints)) (sym c.in_ok-push.ensures.items)
           (All-push (explanation.IsNamed index.directory.endpoints) c.loop-pair.rows.items _ (c.loop-pair.invariant.named intake is)
           (subst (λ (of : directory_spec.DirectoryValue). explanation.IsNamed of.endpoints row) here row_is.named));

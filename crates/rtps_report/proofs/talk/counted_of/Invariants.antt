@@ -11,6 +11,6 @@ use Rattle.rtps_report.proofs.talk.counted_of.Given as goal
 
 abbrev pub invariant-loop-found : goal.invariant-loop-found
 invariant-loop-found l =
-    (intake : intake.Intake) (other : Option other_side.OtherRecording) → index.IsIndexBy intake l.heard.index.now → other_side.IsOtherSide other l.heard.other
-    → talk.AreCounted (asked.asked_value l.heard.asked.now) other intake l.heard.directory.now.endpoints
-    (filter (talk.is_counted_of l.talk.unfit l.talk.namings (rows.chosen_by (asked.asked_value l.heard.asked.now) (recorded.node_in l.talk.who)) l.heard.directory.now.endpoints) (take l.found-index l.matched)) (map best_efforts.counted_value l.counted.items)
+    (intake : intake.Intake) (other : Option other_side.OtherRecording) → index.IsIndexBy intake l.read.index.now → other_side.IsOtherSide other l.read.other
+    → talk.AreCounted (asked.asked_value l.read.asked.now) other intake l.read.directory.now.endpoints
+    (filter (talk.is_counted_of l.talk.unfit l.talk.namings (rows.chosen_by (asked.asked_value l.read.asked.now) (recorded.node_in l.talk.who)) l.read.directory.now.endpoints) (take l.found-index l.matched)) (map best_efforts.counted_value l.counted.items)

@@ -7,5 +7,5 @@ use Rattle.rtps_report.proofs.talk.left_out_of.Given as goal
 
 abbrev pub invariant-loop-found : goal.invariant-loop-found
 invariant-loop-found l =
-    map talk.left_out_value l.left.items ≡ map (talk.left_out_of l.heard.directory.now.endpoints)
-    (filter (talk.is_left_out_of l.talk.unfit l.talk.namings (rows.chosen_by (asked.asked_value l.heard.asked.now) (recorded.node_in l.talk.who)) l.heard.directory.now.endpoints) (take l.found-index l.matched))
+    map talk.left_out_value l.left.items ≡ map (talk.left_out_of l.read.directory.now.endpoints)
+    (filter (talk.is_left_out_of l.talk.unfit l.talk.namings (rows.chosen_by (asked.asked_value l.read.asked.now) (recorded.node_in l.talk.who)) l.read.directory.now.endpoints) (take l.found-index l.matched))

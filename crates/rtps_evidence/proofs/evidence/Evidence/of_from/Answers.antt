@@ -14,11 +14,10 @@ returns c = λ intake is.
     let evidence = c.in_ok-found.found.evidence in
     let same : judgement.pair ≡ c.args.pair = c.of-judgement.ensures.pair in
     let judged = c.of-judgement.ensures.known intake.acts (All-nil (report.IsJudgedFrom c.args.from intake.acts)) in
-    let are : other_side.AreSides intake other_side.alone _ = record { index = is; other = tt; times = ap (λ (t : times.TimesValue). t.of_datagrams) c.none-times.ensures } in
     subst (λ (p : Pair). evidence_spec.IsEvidenceFrom c.args.from p intake evidence) same (record {
       span = judgement.span;
       extent = subst (λ (p : Pair). spans.IsExtent false c.args.from p intake judgement.span) (sym same) (c.of-judgement.ensures.extent intake is);
-      shown = c.in_ok-found.ensures.shown intake other_side.alone are judged;
+      shown = c.in_ok-found.ensures.shown intake other_side.alone (record { index = is; other = tt; times = ap (λ (t : times.TimesValue). t.of_datagrams) c.none-times.ensures }) judged;
       in_span = subst (λ b. evidence_spec.IsBeside b other_side.alone judgement.span judgement.pair intake.acts (spans.heard_in judgement.span judgement.pair intake.acts) evidence.in_span) c.of-judgement.ensures.in_spans
-          (c.in_ok-found.ensures.beside intake other_side.alone are judged).0;
+          (c.in_ok-found.ensures.beside intake other_side.alone (record { index = is; other = tt; times = ap (λ (t : times.TimesValue). t.of_datagrams) c.none-times.ensures }) judged).0;
     })
