@@ -9,6 +9,7 @@ use bumpalo::Bump;
 use rtps_audit::Placed;
 use rtps_ids::{Guid, Memory};
 use std::alloc::Global;
+use std::slice;
 
 /// How many samples an act tells one who hears it.
 #[derive(Clone, Copy)]
@@ -88,7 +89,8 @@ pub fn overheard_counted(
 {
     let mut all = Vec::with_capacity(alloc, acts.len())?;
     for placed in acts {
-        all.push(for_everyone(placed))?;
+        let one = for_everyone(placed);
+        all.extend_from_slice(slice::from_ref(&one))?;
     }
     samples_counted(alloc, &all, NOBODY)
 }
