@@ -81,10 +81,7 @@ pub fn samples_counted(
 }
 
 /// How many samples each of these acts tells one who hears the fragments for everyone. `Memory` as of [`samples_counted`].
-pub fn overheard_counted(
-    alloc: Global,
-    acts: &[Placed<'_>],
-) -> Result<Vec<SampleCount>, Memory>
+pub fn overheard_counted(alloc: Global, acts: &[Placed<'_>]) -> Result<Vec<SampleCount>, Memory>
     ensures { IfOk result (λ counts. map sample_counts.number_of counts.items ≡ sample_counts.counts_behind sample_counts.overheard_at [] (map placed_spec.placed_value acts.now)) }
 {
     let mut all = Vec::with_capacity(alloc, acts.len())?;

@@ -171,11 +171,7 @@ fn push_sent(
 }
 
 /// Appends that a sample of this number is complete.
-fn push_sample(
-    writer: &mut Writer,
-    head: EntryHead<'_>,
-    number: SeqNum,
-) -> Result<(), AllocError>
+fn push_sample(writer: &mut Writer, head: EntryHead<'_>, number: SeqNum) -> Result<(), AllocError>
     ensures tokens { OnOk result (writer.new.tokens
         ≡ writer.old.tokens ++ json_tokens (chart_entries.sample_json head.entry.place head.entry.named.now number)) }
     ensures before { writer.new.before ≡ writer.old.before }

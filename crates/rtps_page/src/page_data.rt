@@ -133,12 +133,7 @@ pub(crate) fn data_of(shown: &Shown<'_, '_>) -> Result<Vec<u8>, Memory>
         index: &report.index,
         pairs: &all,
     };
-    let pairs = pairs_with_charts(
-        alloc,
-        said,
-        report.asked.tail,
-        &report.explained.rows,
-    )?;
+    let pairs = pairs_with_charts(alloc, said, report.asked.tail, &report.explained.rows)?;
     let mut writer = Writer::new(Vec::new(alloc));
     writer.begin_object()?;
     push_members(&mut writer, shown, &all, &pairs)?;

@@ -56,11 +56,7 @@ pub(crate) fn count_at(counts: &[SampleCount], at: usize) -> u64
 }
 
 /// The readers of a writer's pairs.
-fn readers_of(
-    alloc: Global,
-    pairs: &[Pair],
-    writer: Guid,
-) -> Result<Vec<Guid>, AllocError>
+fn readers_of(alloc: Global, pairs: &[Pair], writer: Guid) -> Result<Vec<Guid>, AllocError>
     ensures { IfOk result (λ readers. readers.items ≡ chart_entries.readers_of pairs.now writer) }
 {
     let mut readers = Vec::new(alloc);
@@ -73,11 +69,7 @@ fn readers_of(
 }
 
 /// How many samples each of these acts tells each reader.
-fn tellings_to(
-    alloc: Global,
-    acts: &[Placed<'_>],
-    readers: &[Guid],
-) -> Result<Vec<Telling>, Memory>
+fn tellings_to(alloc: Global, acts: &[Placed<'_>], readers: &[Guid]) -> Result<Vec<Telling>, Memory>
     ensures { IfOk result (λ each. map chart_entries.counted_of each.items ≡ map (chart_entries.counts_for (map placed.placed_value acts.now)) readers.now) }
 {
     let mut each = Vec::with_capacity(alloc, readers.len())?;
@@ -93,11 +85,7 @@ fn tellings_to(
 
 impl Tellings {
     /// Of these acts of a writer and the readers of its rows. Where no act sends fragments, nothing is counted.
-    fn of(
-        alloc: Global,
-        acts: &[Placed<'_>],
-        readers: &[Guid],
-    ) -> Result<Tellings, Memory>
+    fn of(alloc: Global, acts: &[Placed<'_>], readers: &[Guid]) -> Result<Tellings, Memory>
         ensures { IfOk result (chart_entries.AreTellings readers.now (map placed.placed_value acts.now)) }
     {
         let mut all = Vec::new(alloc);
