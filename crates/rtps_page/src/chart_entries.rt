@@ -224,7 +224,7 @@ fn push_each(
     complete: Complete,
 ) -> Result<(), AllocError>
     ensures tokens { OnOk result (writer.new.tokens ≡ writer.old.tokens
-        ++ flat_map (λ one. flat_map json_tokens (chart_entries.samples_to complete.place complete.number (chart_entries.told_of told.at one))) told.tellings.now.each.items) }
+        ++ flat_map (λ one. flat_map json_tokens (chart_entries.samples_to complete.place complete.number (chart_entries.told_of told.entry.at one))) told.entry.tellings.now.each.items) }
     ensures before { writer.new.before ≡ writer.old.before }
 {
     for telling in &told.tellings.each {
@@ -249,7 +249,7 @@ pub(crate) fn push_told(
     placed: &Placed<'_>,
 ) -> Result<(), AllocError>
     ensures tokens { OnOk result (writer.new.tokens ≡ writer.old.tokens
-        ++ flat_map json_tokens (chart_entries.samples_counted told.tellings.now told.at (placed_spec.placed_value placed.now))) }
+        ++ flat_map json_tokens (chart_entries.samples_counted told.entry.tellings.now told.entry.at (placed_spec.placed_value placed.now))) }
     ensures before { writer.new.before ≡ writer.old.before }
 {
     let SpokenBody::DataFrag(piece) = &placed.act.body else {

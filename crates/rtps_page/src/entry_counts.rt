@@ -81,7 +81,7 @@ pub(crate) fn has_entry(placed: &Placed<'_>) -> bool
 
 /// How many samples an act tells the readers of a writer's rows, one reader after another.
 fn samples_of_each(told: Told<'_>) -> u128
-    ensures value { (place : LocationValue) (number : ℕ) → result ≡ length (flat_map (chart_entries.samples_to place number) (map (chart_entries.told_of told.at) told.tellings.now.each.items)) }
+    ensures value { (place : LocationValue) (number : ℕ) → result ≡ length (flat_map (chart_entries.samples_to place number) (map (chart_entries.told_of told.entry.at) told.entry.tellings.now.each.items)) }
     ensures few { result ≤ 2 ^ 64 }
 {
     let mut count = 0u128;
@@ -93,7 +93,7 @@ fn samples_of_each(told: Told<'_>) -> u128
 
 /// How many entries the samples have that an act tells.
 fn entries_told(told: Told<'_>, act: &Spoken<'_>) -> u128
-    ensures value { (datagram : ℕ) → result ≡ length (chart_entries.samples_counted told.tellings.now told.at (record { datagram = datagram; act = receiver_values.spoken_value act.now })) }
+    ensures value { (datagram : ℕ) → result ≡ length (chart_entries.samples_counted told.entry.tellings.now told.entry.at (record { datagram = datagram; act = receiver_values.spoken_value act.now })) }
     ensures few { result ≤ 2 ^ 64 }
 {
     match &act.body {

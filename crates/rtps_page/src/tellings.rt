@@ -101,8 +101,8 @@ impl Tellings {
 impl Said<'_, '_> {
     /// How many samples each act of a writer tells.
     pub(crate) fn tellings_of(self, alloc: Global, writer: Guid) -> Result<Tellings, Memory>
-        ensures { (intake : intake.Intake) → index_spec.IsIndexBy intake self.index.now
-            → IfOk result (chart_entries.AreTellings (chart_entries.readers_of self.pairs.now writer) (filter (placed.is_from writer) (placed.placed_in intake.acts))) }
+        ensures { (intake : intake.Intake) → index_spec.IsIndexBy intake self.entry.index.now
+            → IfOk result (chart_entries.AreTellings (chart_entries.readers_of self.entry.pairs.now writer) (filter (placed.is_from writer) (placed.placed_in intake.acts))) }
     {
         let readers = readers_of(alloc, self.pairs, writer)?;
         Tellings::of(alloc, self.index.acts_of(writer), &readers)
@@ -112,7 +112,7 @@ impl Said<'_, '_> {
 impl Told<'_> {
     /// How many samples the act tells one who hears everything.
     pub(crate) fn all(self) -> u64
-        ensures value { result ≡ get_or (map sample_counts.number_of self.tellings.now.all.items) self.at 0 }
+        ensures value { result ≡ get_or (map sample_counts.number_of self.entry.tellings.now.all.items) self.entry.at 0 }
         ensures few { result ≤ 2 }
     {
         count_at(&self.tellings.all, self.at)
@@ -120,7 +120,7 @@ impl Told<'_> {
 
     /// How many it tells a reader.
     pub(crate) fn by(self, telling: &Telling) -> u64
-        ensures value { result ≡ (chart_entries.told_of self.at telling.now).samples }
+        ensures value { result ≡ (chart_entries.told_of self.entry.at telling.now).samples }
         ensures few { result ≤ 2 }
     {
         count_at(&telling.counts, self.at)
@@ -128,7 +128,7 @@ impl Told<'_> {
 
     /// Whether it tells each reader that hears it as many as one who hears everything.
     pub(crate) fn are_alike(self, act: &Spoken<'_>) -> bool
-        ensures { result ≡ chart_entries.are_told_alike (receiver_values.spoken_value act.now) (get_or (map sample_counts.number_of self.tellings.now.all.items) self.at 0) (map (chart_entries.told_of self.at) self.tellings.now.each.items) }
+        ensures { result ≡ chart_entries.are_told_alike (receiver_values.spoken_value act.now) (get_or (map sample_counts.number_of self.entry.tellings.now.all.items) self.entry.at 0) (map (chart_entries.told_of self.entry.at) self.entry.tellings.now.each.items) }
     {
         let all = self.all();
         for telling in &self.tellings.each {
