@@ -29,7 +29,7 @@ few_told before piece =
     let last = data_frag.last_fragment piece.shape in
     let came = filter_map (samples.came_of piece.number piece.shape) all in
     let least = length-drop (length (samples.payloads_of piece.number piece.shape before)) (samples.payloads_of piece.number piece.shape all) in
-    let long = length-map (fragment_delivery.payload_by piece.shape) (samples.samples_of last came) in
+    let long = length-map (samples.samples_of last came) (fragment_delivery.payload_by piece.shape) in
     omega (arith, least, long, few_samples (samples.firsts_of came last) (find (samples.is_other came) came))
 
 few_acts : (reader : Guid) (before : List sample_acts.PieceAct) (act : receiver_values.ActValue) (piece : Option fragment_delivery.Piece) → length (sample_acts.samples_told reader before act piece) ≤ 2
@@ -40,7 +40,7 @@ few_acts reader before act (Some piece) = by (speech.is_heard_by act reader)
     told = samples.told_by (sample_acts.heard_from (speech.origin_of act) reader before) piece
 
     by : (b : Bool) → length (cond b (map (sample_acts.sample_act reader act piece.number) told) []) ≤ 2
-    by true = let long = length-map (sample_acts.sample_act reader act piece.number) told in omega (arith, long, few_told (sample_acts.heard_from (speech.origin_of act) reader before) piece)
+    by true = let long = length-map told (sample_acts.sample_act reader act piece.number) in omega (arith, long, few_told (sample_acts.heard_from (speech.origin_of act) reader before) piece)
     by false = omega arith
 
 pub few_at : (reader : Guid) (before : List placed_spec.PlacedValue) (one : placed_spec.PlacedValue) → sample_counts.samples_at reader before one ≤ 2
@@ -48,7 +48,7 @@ few_at reader before one = few_acts reader (sample_counts.with_pieces before) on
 
 -- so many acts in one datagram as acts
 pub placed_length : (datagram : ℕ) (acts : List receiver_values.ActValue) → length (placed_spec.placed_at datagram acts) ≡ length acts
-placed_length datagram acts = length-map (λ (act : receiver_values.ActValue). (let one : placed_spec.PlacedValue = record { datagram = datagram; act = act } in one)) acts
+placed_length datagram acts = length-map acts (λ (act : receiver_values.ActValue). (let one : placed_spec.PlacedValue = record { datagram = datagram; act = act } in one))
 
 -- the pieces of one act more
 pub pieces_more : (before : List placed_spec.PlacedValue) (one : placed_spec.PlacedValue) → sample_counts.with_pieces (before ++ one ∷ []) ≡ sample_counts.with_pieces before ++ hearing.with_piece one.act ∷ []

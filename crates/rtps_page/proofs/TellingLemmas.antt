@@ -155,7 +155,7 @@ acts_more readers acts tellings i x are lt is =
     let all = map placed_spec.placed_value acts in
     let front = map placed_spec.placed_value (take i acts) in
     let there : value ≡ get_or all i value = ap placed_spec.placed_value is ∙ sym (get_or_map placed_spec.placed_value acts i x) in
-    let told = are i value (omega (arith, lt, length-map placed_spec.placed_value acts)) there ∙ ap (λ b. chart_entries.samples_behind readers b value) (take-map placed_spec.placed_value i acts) in
+    let told = are i value (omega (arith, lt, length-map acts placed_spec.placed_value)) there ∙ ap (λ b. chart_entries.samples_behind readers b value) (take-map placed_spec.placed_value i acts) in
     ap (chart_entries.entries_behind readers []) (values_more acts i x lt is) ∙ entries_more readers [] front value ∙ ap (λ l. chart_entries.entries_behind readers [] front ++ (chart_entries.entries_of value ++ l)) (sym told)
   where
     get_or_map : {A B : Type 0} (f : A → B) (xs : List A) (n : ℕ) (d : A) → get_or (map f xs) n (f d) ≡ f (get_or xs n d)

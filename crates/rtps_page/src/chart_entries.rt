@@ -6,7 +6,7 @@ ghost use Rattle.rtps_evidence.specs.Locations as locations;
 ghost use Rattle.rtps_page.specs.ChartEntries as chart_entries;
 
 use crate::entry_counts::has_number;
-use crate::tellings::Told;
+use crate::tellings::{Telling, Told};
 use json::Writer;
 use rtps_audit::Placed;
 use rtps_evidence::Location;
@@ -227,7 +227,8 @@ fn push_each(
         ++ flat_map (λ one. flat_map json_tokens (chart_entries.samples_to complete.place complete.number (chart_entries.told_of told.entry.at one))) told.entry.tellings.now.each.items) }
     ensures before { writer.new.before ≡ writer.old.before }
 {
-    for telling in &told.tellings.each {
+    let each: &[Telling] = &told.tellings.each;
+    for telling in each {
         let only = Audience {
             dest: Some(telling.reader.prefix),
             reader: telling.reader.entity,

@@ -1,4 +1,4 @@
-use Rattle.std.proofs.Common.{◌≡◌, ◌∙◌, ◌++◌, ◌∷◌, [], List, ap, map, sym, take, take_all}
+use Rattle.std.proofs.Common.{◌≡◌, ◌∙◌, ◌++◌, ◌∷◌, [], List, ap, map, subst, sym, take, take_all, IfOk}
 use Rattle.std.proofs.lemmas.List.{map-append}
 use Rattle.rtps_audit.specs.Placed as placed_spec
 use Rattle.rtps_audit.specs.declared.placed.Placed.{Placed}
@@ -23,7 +23,7 @@ pub returns : goal.returns
 returns c =
     let acts = map placed_spec.placed_value c.args.acts.now in
     let all = c.loop-placed.invariant ∙ ap (λ (l : List Placed). map hearing.for_everyone (map placed_spec.placed_value l)) (take_all c.loop-placed.placed-index c.args.acts.now c.loop-placed-test.false) in
-    c.samples_counted.ensures
-    ∙ ap (λ (l : List Placed). sample_counts.counts_behind (sample_counts.samples_at hearing.nobody) [] (map placed_spec.placed_value l)) c.deref.ensures.value
+    let is = ap (λ (l : List Placed). sample_counts.counts_behind (sample_counts.samples_at hearing.nobody) [] (map placed_spec.placed_value l)) c.deref.ensures.value
     ∙ ap (sample_counts.counts_behind (sample_counts.samples_at hearing.nobody) []) all
-    ∙ overheard_counts acts
+    ∙ overheard_counts acts in
+    subst (λ l. IfOk c.samples_counted.result (λ counts. map sample_counts.number_of counts.items ≡ l)) is c.samples_counted.ensures

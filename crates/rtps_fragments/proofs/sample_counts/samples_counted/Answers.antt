@@ -20,8 +20,8 @@ loop-placed-preserved c =
     let count = c.in_ok-count.ensures.count front came ∙ ap (λ r. sample_counts.samples_at r front one) same in
     record {
       reader = c.in_ok-count.ensures.reader ∙ same;
-      came = subst (λ r. hearing_spec.HaveCome r (sample_counts.with_pieces (map placed_spec.placed_value (take (i + 1) acts))) c.count_told-count.new.hearing.makings) same
-          (subst (λ l. hearing_spec.HaveCome c.loop-placed.hearing.reader (sample_counts.with_pieces l) c.count_told-count.new.hearing.makings) (sym more) (c.in_ok-count.ensures.heard front came));
+      came = subst (λ r. hearing_spec.HaveCome r (sample_counts.with_pieces (map placed_spec.placed_value (take (i + 1) acts))) c.count_told.new.hearing.makings) same
+          (subst (λ l. hearing_spec.HaveCome c.loop-placed.hearing.reader (sample_counts.with_pieces l) c.count_told.new.hearing.makings) (sym more) (c.in_ok-count.ensures.heard front came));
       counts = ap (map sample_counts.number_of) c.in_ok-push.ensures.items ∙ map-append sample_counts.number_of c.loop-placed.counts.items (c.in_ok-count.count ∷ [])
           ∙ ap₂ (λ l n. l ++ n ∷ []) c.loop-placed.invariant.counts count ∙ sym (counts_more (sample_counts.samples_at reader) [] front one) ∙ ap (sample_counts.counts_behind (sample_counts.samples_at reader) []) (sym more);
     }
