@@ -2,7 +2,8 @@
 use Rattle.std.proofs.lemmas.Grind.{common_steps}
 use Rattle.std.proofs.lemmas.Bool.Decides.{nat_tests}
 use Rattle.std.proofs.Common.{◌≡◌, ℕ, ◌+◌, Bool, true, false, cond, ◌&&◌, List, [], ◌∷◌, ◌++◌, filter, map, Option, Some, None, refl, sym, ◌∙◌, ap, ap₂, subst, inl, inr, append_assoc, append-nil, arith}
-use Rattle.std.specs.List.{cons_option, filter_map}
+use Rattle.std.specs.List.{cons_option, filter_map, list_any}
+use Rattle.std.specs.Prelude.{◌||◌}
 use Rattle.std.proofs.lemmas.Bool.{cases_Bool}
 use Rattle.std.proofs.lemmas.List.{map-append}
 use Rattle.std.proofs.lemmas.List.Elements.{filter-append, filter_map-append}
@@ -14,8 +15,17 @@ use Rattle.rtps_discovery.specs.declared.matching.Pair.{Pair}
 use Rattle.rtps_audit.specs.Placed as placed
 use Rattle.rtps_audit.specs.Speech as audit_speech
 use Rattle.rtps_audit.proofs.Offered.{speaker_is_origin}
+use Rattle.rtps_wire.specs.DataFrag as data_frag
 use Rattle.rtps_fragments.specs.FragmentDelivery as fragment_delivery
+use Rattle.rtps_fragments.specs.Heard as heard
 use Rattle.rtps_fragments.specs.Hearing as hearing
+use Rattle.rtps_fragments.specs.Making as making
+use Rattle.rtps_fragments.specs.Merging as merging
+use Rattle.rtps_fragments.specs.ToldSamples as told_samples
+use Rattle.rtps_fragments.specs.declared.piece.SampleKey.{SampleKey}
+use Rattle.rtps_fragments.proofs.HearingLemmas.{no_piece}
+use Rattle.rtps_fragments.proofs.MergingLemmas.{came_by_act, map_map, payloads_more, sent_by_act}
+use Rattle.rtps_fragments.proofs.ToldLemmas.{if_then}
 use Rattle.rtps_fragments.specs.SampleActs as sample_acts
 use Rattle.rtps_fragments.specs.Samples as samples
 use Rattle.rtps_fragments.proofs.HeardLemmas.{heard-more, heard_one}
@@ -39,6 +49,83 @@ heard_behind-more reader before (first ∷ acts) one =
     let told = placed.placed_at first.datagram (sample_acts.samples_told reader before first.act (hearing.piece_in first.act.body)) in
     ap (λ rest. first ∷ (told ++ rest)) (heard_behind-more reader (before ++ hearing.with_piece first.act ∷ []) acts one ∙ ap (λ bs. hearing.heard_behind reader (before ++ hearing.with_piece first.act ∷ []) acts ++ heard_one_at reader bs one) (append_assoc before (hearing.with_piece first.act ∷ []) (pieces_at acts)))
     ∙ ap (λ rest. first ∷ rest) (sym (append_assoc told (hearing.heard_behind reader (before ++ hearing.with_piece first.act ∷ []) acts) (heard_one_at reader (before ++ pieces_at (first ∷ acts)) one)))
+
+-- ---- what an act lets a reader put together
+
+fragment_body : (body : values.ActBodyValue) (piece : fragment_delivery.Piece) → hearing.piece_in body ≡ Some piece → (value : values.FragmentValue) × (body ≡ values.ActBodyValue.DataFrag value) × (value.number ≡ piece.number)
+fragment_body (values.ActBodyValue.DataFrag value) piece e = (value, refl, by value.sent e)
+  where
+    by : (o : Option values.SentPartValue) → hearing.piece_sent value.number o ≡ Some piece → value.number ≡ piece.number
+    by None h = cc
+    by (Some part) h = let (well, is) = if_then (hearing.is_part part) _ piece h in ap (λ (p : fragment_delivery.Piece). p.number) is
+fragment_body (values.ActBodyValue.Data value) piece e = cc
+fragment_body (values.ActBodyValue.Heartbeat value) piece e = cc
+fragment_body (values.ActBodyValue.AckNack value) piece e = cc
+fragment_body (values.ActBodyValue.Gap value) piece e = cc
+fragment_body (values.ActBodyValue.NackFrag value) piece e = cc
+
+fragment_act : (act : values.ActValue) (piece : fragment_delivery.Piece) → hearing.piece_in act.body ≡ Some piece → merging.IsFragmentAct (hearing.with_piece act) piece
+fragment_act act piece e = let (value, body, number) = fragment_body act.body piece e in record { value = value; body = body; number = number }
+
+-- the samples that fragments tell a reader, as acts
+abbrev pub told_acts : Guid → values.ActValue → told_samples.SentValue → List (ℕ × List ℕ) → List values.ActValue
+told_acts reader act sent came = map (λ (told : told_samples.ToldValue). sample_acts.sample_act reader act sent.key.number told.payload) (told_samples.told_by_sent sent came)
+
+-- What the reader hears with this act, and what it tells the reader.
+pub record HearsMore (reader : Guid) (before : List sample_acts.PieceAct) (act : values.ActValue) (sent : told_samples.SentValue) : Type 0 where
+  pub came : (key : SampleKey) → making.came_more (hearing.came_to reader before) sent key ≡ hearing.came_to reader (before ++ hearing.with_piece act ∷ []) key
+  pub told : told_acts reader act sent (hearing.came_to reader before sent.key) ≡ sample_acts.samples_told reader before act (hearing.piece_in act.body)
+
+pub hears_more : (reader : Guid) (before : List sample_acts.PieceAct) (act : values.ActValue) (i : ℕ) (sent : told_samples.SentValue) → speech.is_heard_by act reader ≡ true → merging.sent_in i act (hearing.piece_in act.body) ≡ sent ∷ [] → HearsMore reader before act sent
+hears_more reader before act i sent heard_it is = by (hearing.piece_in act.body) refl is
+  where
+    one : {X : Type 0} (x y : X) → ◌≡◌ {A = List X} (x ∷ []) (y ∷ []) → x ≡ y
+    one x y h = cc
+
+    with_true : (b c : Bool) → c ≡ true → (b && c) ≡ b
+    with_true b c h = grind (arith, nat_tests)
+
+    joined : (b : Bool) (xs ys : List (ℕ × List ℕ)) → cond b (xs ++ ys) xs ≡ xs ++ cond b ys []
+    joined true xs ys = refl
+    joined false xs ys = sym (append-nil xs)
+
+    of_piece : (piece : fragment_delivery.Piece) → hearing.piece_in act.body ≡ Some piece → HearsMore reader before act (sent_by_act i act piece)
+    of_piece piece e = record {
+      came = λ key.
+          let came = samples.came_of key.number (told_samples.shape_of key) in
+          let part = hearing.with_piece act in
+          let old = hearing.came_to reader before key in
+          joined (told_samples.is_sample key (merging.key_of act piece)) old (heard.came_from piece.first piece.parts) ∙ ap (λ cs. old ++ cs) (sym (came_by_act part piece (fragment_act act piece e) key))
+          ∙ ap (λ b. old ++ filter_map came (heard_one b (Some piece))) (sym (with_true (speech.is_spoken_by act key.writer) (speech.is_heard_by act reader) heard_it))
+          ∙ ap (λ o. old ++ filter_map came (heard_one (hears_part key.writer reader part) o)) (sym e)
+          ∙ sym (ap (filter_map came) (heard-more (hears_part key.writer reader) before part) ∙ filter_map-append came (sample_acts.heard_from key.writer reader before) (heard_one (hears_part key.writer reader part) part.piece));
+      told =
+          let made = λ (octets : List ℕ). fragment_delivery.payload_by piece.shape octets in
+          let old = hearing.came_to reader before (merging.key_of act piece) in
+          let octets = told_samples.samples_more (data_frag.last_fragment piece.shape) old (heard.came_from piece.first piece.parts) in
+          map_map (λ (told : told_samples.ToldValue). sample_acts.sample_act reader act piece.number told.payload) (λ octets. let told : told_samples.ToldValue = record { act = i; payload = made octets } in told) octets
+          ∙ sym (map_map (sample_acts.sample_act reader act piece.number) made octets)
+          ∙ ap (map (sample_acts.sample_act reader act piece.number)) (payloads_more (sample_acts.heard_from (speech.origin_of act) reader before) old piece refl)
+          ∙ ap (λ b. cond b (map (sample_acts.sample_act reader act piece.number) (samples.told_by (sample_acts.heard_from (speech.origin_of act) reader before) piece)) []) (sym heard_it)
+          ∙ ap (sample_acts.samples_told reader before act) (sym e);
+    }
+
+    by : (o : Option fragment_delivery.Piece) → hearing.piece_in act.body ≡ o → merging.sent_in i act o ≡ sent ∷ [] → HearsMore reader before act sent
+    by None e h = cc
+    by (Some piece) e h = subst (HearsMore reader before act) (one (sent_by_act i act piece) sent h) (of_piece piece e)
+
+-- ---- no fragments
+
+-- acts without fragments tell nothing
+pub heard_without : (reader : Guid) (before : List sample_acts.PieceAct) (acts : List placed.PlacedValue) → list_any (λ at. hearing.sends_fragments at.act.body) acts ≡ false → hearing.heard_behind reader before acts ≡ acts
+heard_without reader before [] none = refl
+heard_without reader before (one ∷ acts) none =
+    let (here, rest) = neither (hearing.sends_fragments one.act.body) _ none in
+    ap (λ o. one ∷ (placed.placed_at one.datagram (sample_acts.samples_told reader before one.act o) ++ hearing.heard_behind reader (before ++ hearing.with_piece one.act ∷ []) acts)) (no_piece one.act.body here)
+    ∙ ap (λ xs. one ∷ xs) (heard_without reader (before ++ hearing.with_piece one.act ∷ []) acts rest)
+  where
+    neither : (a b : Bool) → (a || b) ≡ false → (a ≡ false) × (b ≡ false)
+    neither a b h = grind (arith, nat_tests)
 
 -- ---- the acts of a recording in their places
 

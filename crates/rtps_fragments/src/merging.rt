@@ -81,13 +81,14 @@ pub(crate) fn merge<'s>(
     ensures { OnOk result (map receiver_values.spoken_value merged.new.items ≡ merging.merged_from 0 (map receiver_values.spoken_value acts.now) (map told_samples.told_value told.now)) }
 {
     merged.clear();
-    let mut rest = told;
+    let mut done = 0;
     for place in 0..acts.len() {
         let act = &acts[place];
         merged.extend_from_slice(slice::from_ref(act))?;
-        let (run, behind) = rest.split_at(run_length(rest, place));
-        push_told(merged, act, run)?;
-        rest = behind;
+        let rest = &told[done..];
+        let count = run_length(rest, place);
+        push_told(merged, act, &rest[..count])?;
+        done += count;
     }
     Ok(())
 }
