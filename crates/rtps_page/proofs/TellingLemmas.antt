@@ -1,6 +1,7 @@
 -- What is counted of the samples that acts tell gives their entries.
 use Rattle.std.proofs.Common.{◌≡◌, ◌<◌, ◌+◌, ◌||◌, ◌&&◌, ◌==◌, ◌∙◌, ℕ, zero, suc, Bool, true, false, not, List, [], ◌∷◌, ◌++◌, None, Some, ap, ap₂, append-nil, append_assoc, arith, cond, flat_map, get_or, is_some, length, map, refl, sym, take}
 use Rattle.std.proofs.lemmas.List.{length-map, take-map}
+use Rattle.std.proofs.lemmas.List.Concat.{flat_map-append}
 use Rattle.std.specs.Prelude.{replicate}
 use Rattle.std.specs.List.{list_all, list_any}
 use Rattle.json.specs.Json.{Json}
@@ -59,6 +60,12 @@ replicate_more n x = ap (λ m. replicate m x) {y = suc n} (omega arith) ∙ fron
     front : (m : ℕ) → replicate (suc m) x ≡ replicate m x ++ x ∷ []
     front zero = refl
     front (suc m) = ap (λ l. x ∷ l) (front m)
+
+-- ---- lists of lists
+
+pub each_tokens : {A B C D : Type 0} (f : B → List C) (g : C → List D) (h : A → B) (xs : List A) → flat_map (λ x. flat_map g (f (h x))) xs ≡ flat_map g (flat_map f (map h xs))
+each_tokens f g h [] = refl
+each_tokens f g h (x ∷ xs) = ap (λ l. flat_map g (f (h x)) ++ l) (each_tokens f g h xs) ∙ sym (flat_map-append g (f (h x)) (flat_map f (map h xs)))
 
 -- ---- what is counted
 
