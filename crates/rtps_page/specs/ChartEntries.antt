@@ -99,9 +99,13 @@ pub record Told : Type 0 where
 abbrev pub only : Guid → Option Audience
 only reader = Some (record { dest = Some reader.prefix; reader = reader.entity })
 
+-- the reader does not hear the act, or is told so many samples by it
+abbrev pub is_told_alike : values.ActValue → ℕ → Told → Bool
+is_told_alike act all told = not (speech.is_heard_by act told.reader) || (told.samples == all)
+
 -- each of these that hears an act is told so many samples by it
 abbrev pub are_told_alike : values.ActValue → ℕ → List Told → Bool
-are_told_alike act all each = list_all (λ told. not (speech.is_heard_by act told.reader) || (told.samples == all)) each
+are_told_alike act all each = list_all (is_told_alike act all) each
 
 -- the samples of this number that are complete at a place for one reader
 abbrev pub samples_to : Location → ℕ → Told → List Json

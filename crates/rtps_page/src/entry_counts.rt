@@ -1,9 +1,10 @@
-ghost use Rattle.std.specs.Prelude.{ℕ, ◌≡◌, ◌≤◌, ◌<◌, ◌^◌, [], flat_map, length, map, List, option_map};
+ghost use Rattle.std.specs.Prelude.{ℕ, ◌≡◌, ◌≤◌, ◌<◌, ◌^◌, [], flat_map, get_or, length, map, List, option_map};
 ghost use Rattle.rtps_ids.specs.NumberSet as number_set;
 ghost use Rattle.rtps_ids.specs.declared.identity.Guid.{Guid as GuidValue};
 ghost use Rattle.rtps_receiver.specs.Values as receiver_values;
 ghost use Rattle.rtps_audit.specs.Placed as placed_spec;
 ghost use Rattle.rtps_evidence.specs.declared.location.Location.{Location as LocationValue};
+ghost use Rattle.rtps_fragments.specs.SampleCounts as sample_counts;
 ghost use Rattle.rtps_page.specs.ChartEntries as chart_entries;
 ghost use Rattle.rtps_page.specs.ChartTimes as chart_times;
 
@@ -91,17 +92,25 @@ fn samples_of_each(told: Told<'_>) -> u128
     count
 }
 
-/// How many entries the samples have that an act tells.
+/// How many entries samples have that an act tells.
+fn samples_of(told: Told<'_>, act: &Spoken<'_>) -> u128
+    ensures value { (datagram number : ℕ) → result ≡ length (chart_entries.samples_json (record { datagram = datagram; act = receiver_values.spoken_value act.now })
+        (get_or (map sample_counts.number_of told.entry.tellings.now.all.items) told.entry.at 0) (map (chart_entries.told_of told.entry.at) told.entry.tellings.now.each.items) number) }
+    ensures few { result ≤ 2 ^ 64 }
+{
+    if told.are_alike(act) {
+        return u128::from(told.all());
+    }
+    samples_of_each(told)
+}
+
+/// The same; acts that are no DATA_FRAG tell none.
 fn entries_told(told: Told<'_>, act: &Spoken<'_>) -> u128
     ensures value { (datagram : ℕ) → result ≡ length (chart_entries.samples_counted told.entry.tellings.now told.entry.at (record { datagram = datagram; act = receiver_values.spoken_value act.now })) }
     ensures few { result ≤ 2 ^ 64 }
 {
     match &act.body {
-        SpokenBody::DataFrag(_) => if told.are_alike(act) {
-            u128::from(told.all())
-        } else {
-            samples_of_each(told)
-        },
+        SpokenBody::DataFrag(_) => samples_of(told, act),
         SpokenBody::Act(_) | SpokenBody::NackFrag(_) => 0,
     }
 }

@@ -84,17 +84,26 @@ fn tellings_to(alloc: Global, acts: &[Placed<'_>], readers: &[Guid]) -> Result<V
 }
 
 impl Tellings {
-    /// Of these acts of a writer and the readers of its rows. Where no act sends fragments, nothing is counted.
+    /// Of these acts of a writer and the readers of its rows.
+    fn counted(alloc: Global, acts: &[Placed<'_>], readers: &[Guid]) -> Result<Tellings, Memory>
+        ensures { IfOk result (chart_entries.AreTellings readers.now (map placed.placed_value acts.now)) }
+    {
+        let all = overheard_counted(alloc, acts)?;
+        let each = tellings_to(alloc, acts, readers)?;
+        Ok(Tellings { all, each })
+    }
+
+    /// The same. Where no act sends fragments, nothing is counted.
     fn of(alloc: Global, acts: &[Placed<'_>], readers: &[Guid]) -> Result<Tellings, Memory>
         ensures { IfOk result (chart_entries.AreTellings readers.now (map placed.placed_value acts.now)) }
     {
-        let mut all = Vec::new(alloc);
-        let mut each = Vec::new(alloc);
         if have_fragments(acts) {
-            all = overheard_counted(alloc, acts)?;
-            each = tellings_to(alloc, acts, readers)?;
+            return Tellings::counted(alloc, acts, readers);
         }
-        Ok(Tellings { all, each })
+        Ok(Tellings {
+            all: Vec::new(alloc),
+            each: Vec::new(alloc),
+        })
     }
 }
 
@@ -126,13 +135,19 @@ impl Told<'_> {
         count_at(&telling.counts, self.at)
     }
 
+    /// Whether a reader does not hear the act, or is told as many as one who hears everything.
+    fn is_alike(self, act: &Spoken<'_>, telling: &Telling) -> bool
+        ensures { result ≡ chart_entries.is_told_alike (receiver_values.spoken_value act.now) (get_or (map sample_counts.number_of self.entry.tellings.now.all.items) self.entry.at 0) (chart_entries.told_of self.entry.at telling.now) }
+    {
+        !act.heard_by(telling.reader) || self.by(telling) == self.all()
+    }
+
     /// Whether it tells each reader that hears it as many as one who hears everything.
     pub(crate) fn are_alike(self, act: &Spoken<'_>) -> bool
         ensures { result ≡ chart_entries.are_told_alike (receiver_values.spoken_value act.now) (get_or (map sample_counts.number_of self.entry.tellings.now.all.items) self.entry.at 0) (map (chart_entries.told_of self.entry.at) self.entry.tellings.now.each.items) }
     {
-        let all = self.all();
         for telling in &self.tellings.each {
-            if act.heard_by(telling.reader) && self.by(telling) != all {
+            if !self.is_alike(act, telling) {
                 return false;
             }
         }
