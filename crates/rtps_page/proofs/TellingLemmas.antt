@@ -84,6 +84,18 @@ tellings_are readers acts tellings all each at placed lt is =
     ap₂ (λ n told. chart_entries.samples_in placed n told placed.act.body) (ap (λ l. get_or l at 0) all ∙ counts_at sample_counts.overheard_at acts at placed lt is)
     (mapped_twice chart_entries.counted_of (told_from at) tellings.each.items ∙ ap (map (told_from at)) each ∙ counted_alike readers acts at placed lt is)
 
+-- ---- the entries of an act's samples
+
+pub if_alike : (placed : placed_spec.PlacedValue) (all : ℕ) (each : List chart_entries.Told) (number : ℕ) → chart_entries.are_told_alike placed.act all each ≡ true
+    → chart_entries.samples_json placed all each number ≡ replicate all (chart_entries.sample_json (locations.location_of placed) (chart_entries.audience_text (audience.audience_of placed.act)) number)
+if_alike placed all each number are =
+    ap (λ b. cond b (replicate all (chart_entries.sample_json (locations.location_of placed) (chart_entries.audience_text (audience.audience_of placed.act)) number)) (flat_map (chart_entries.samples_to (locations.location_of placed) number) each)) are
+
+pub if_not_alike : (placed : placed_spec.PlacedValue) (all : ℕ) (each : List chart_entries.Told) (number : ℕ) → chart_entries.are_told_alike placed.act all each ≡ false
+    → chart_entries.samples_json placed all each number ≡ flat_map (chart_entries.samples_to (locations.location_of placed) number) each
+if_not_alike placed all each number are =
+    ap (λ b. cond b (replicate all (chart_entries.sample_json (locations.location_of placed) (chart_entries.audience_text (audience.audience_of placed.act)) number)) (flat_map (chart_entries.samples_to (locations.location_of placed) number) each)) are
+
 -- ---- no fragments
 
 none_sends : (acts : List placed_spec.PlacedValue) (at : ℕ) (placed : placed_spec.PlacedValue) → hearing.have_fragments acts ≡ false → at < length acts → placed ≡ get_or acts at placed → hearing.sends_fragments placed.act.body ≡ false

@@ -262,10 +262,9 @@ pub(crate) fn push_told(
         samples: told.all(),
     };
     if told.are_alike(&placed.act) {
-        push_samples_for(writer, text, placed.act.audience(), complete)
-    } else {
-        push_each(writer, text, told, complete)
+        return push_samples_for(writer, text, placed.act.audience(), complete);
     }
+    push_each(writer, text, told, complete)
 }
 
 /// Where an act stands.
