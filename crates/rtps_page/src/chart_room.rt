@@ -217,7 +217,7 @@ pub(crate) fn pairs_with_charts(
     tail: u64,
     rows: &[Explanation<'_>],
 ) -> Result<Vec<Pair>, Memory>
-    requires { said.entry.pairs.now ≡ chart_room.pairs_of (map explanation.explanation_value rows.now) }
+    requires { said.pairs.now ≡ chart_room.pairs_of (map explanation.explanation_value rows.now) }
     ensures { (intake : intake.Intake) → index_spec.IsIndexBy intake said.entry.index.now
         → IfOk result (λ pairs. pairs.items ≡ chart_room.charted_pairs tail (placed.placed_in intake.acts) (map explanation.explanation_value rows.now)) }
 {
