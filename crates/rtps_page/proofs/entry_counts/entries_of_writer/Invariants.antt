@@ -6,7 +6,7 @@ use Rattle.rtps_page.proofs.entry_counts.entries_of_writer.Given as goal
 
 abbrev pub invariant-loop-at : goal.invariant-loop-at
 invariant-loop-at l = record {
-  value : (readers : List Guid) → chart_entries.AreTellings readers (map placed.placed_value l.fn.acts.now) l.fn.tellings.now
-      → l.count ≡ length (chart_entries.entries_behind readers [] (map placed.placed_value (take l.at l.fn.acts.now)));
+  value : (readers : List Guid) → chart_entries.AreTellings readers (map placed.placed_value l.fn.acts) l.fn.tellings
+      → l.count ≡ length (chart_entries.entries_behind readers [] (map placed.placed_value (take l.at l.fn.acts)));
   few : l.count ≤ l.at * 18446744073709551873;
 }
