@@ -6,7 +6,7 @@ ghost use Rattle.rtps_evidence.specs.Locations as locations;
 ghost use Rattle.rtps_page.specs.ChartEntries as chart_entries;
 
 use crate::entry_counts::has_number;
-use crate::tellings::{Telling, Told};
+use crate::tellings::{Telling, Told, count_at};
 use json::Writer;
 use rtps_audit::Placed;
 use rtps_evidence::Location;
@@ -21,6 +21,14 @@ pub(crate) struct Complete {
     pub(crate) place: Location,
     pub(crate) number: SeqNum,
     pub(crate) samples: u64,
+}
+
+/// An act that tells samples of a number, and its place among those that are counted.
+#[derive(Clone, Copy)]
+pub(crate) struct Teller {
+    pub(crate) place: Location,
+    pub(crate) number: SeqNum,
+    pub(crate) at: usize,
 }
 
 /// Where an act stands, and whom it names.
@@ -216,28 +224,42 @@ fn push_samples_for(
     push_samples(writer, head, complete.number, complete.samples)
 }
 
+/// Appends the samples that an act tells a reader.
+fn push_to(
+    writer: &mut Writer,
+    text: &mut String,
+    telling: &Telling,
+    teller: Teller,
+) -> Result<(), AllocError>
+    ensures tokens { OnOk result (writer.new.tokens ≡ writer.old.tokens
+        ++ flat_map json_tokens (chart_entries.samples_to teller.place teller.number (chart_entries.told_of teller.at telling.now))) }
+    ensures before { writer.new.before ≡ writer.old.before }
+{
+    let only = Audience {
+        dest: Some(telling.reader.prefix),
+        reader: telling.reader.entity,
+    };
+    let complete = Complete {
+        place: teller.place,
+        number: teller.number,
+        samples: count_at(&telling.counts, teller.at),
+    };
+    push_samples_for(writer, text, Some(only), complete)
+}
+
 /// Appends the samples that an act tells each reader.
 fn push_each(
     writer: &mut Writer,
     text: &mut String,
-    told: Told<'_>,
-    complete: Complete,
+    each: &[Telling],
+    teller: Teller,
 ) -> Result<(), AllocError>
     ensures tokens { OnOk result (writer.new.tokens ≡ writer.old.tokens
-        ++ flat_map (λ one. flat_map json_tokens (chart_entries.samples_to complete.place complete.number (chart_entries.told_of told.entry.at one))) told.entry.tellings.now.each.items) }
+        ++ flat_map (λ one. flat_map json_tokens (chart_entries.samples_to teller.place teller.number (chart_entries.told_of teller.at one))) each.now) }
     ensures before { writer.new.before ≡ writer.old.before }
 {
-    let each: &[Telling] = &told.tellings.each;
     for telling in each {
-        let only = Audience {
-            dest: Some(telling.reader.prefix),
-            reader: telling.reader.entity,
-        };
-        let complete = Complete {
-            samples: told.by(telling),
-            ..complete
-        };
-        push_samples_for(writer, text, Some(only), complete)?;
+        push_to(writer, text, telling, teller)?;
     }
     Ok(())
 }
@@ -256,15 +278,21 @@ pub(crate) fn push_told(
     let SpokenBody::DataFrag(piece) = &placed.act.body else {
         return Ok(());
     };
-    let complete = Complete {
-        place: place_of(placed),
-        number: piece.number,
-        samples: told.all(),
-    };
+    let place = place_of(placed);
     if told.are_alike(&placed.act) {
+        let complete = Complete {
+            place,
+            number: piece.number,
+            samples: told.all(),
+        };
         return push_samples_for(writer, text, placed.act.audience(), complete);
     }
-    push_each(writer, text, told, complete)
+    let teller = Teller {
+        place,
+        number: piece.number,
+        at: told.at,
+    };
+    push_each(writer, text, &told.tellings.each, teller)
 }
 
 /// Where an act stands.
