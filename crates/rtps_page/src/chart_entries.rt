@@ -229,10 +229,10 @@ fn push_to(
     writer: &mut Writer,
     text: &mut String,
     telling: &Telling,
-    teller: Teller,
+    teller: &Teller,
 ) -> Result<(), AllocError>
     ensures tokens { OnOk result (writer.new.tokens ≡ writer.old.tokens
-        ++ flat_map json_tokens (chart_entries.samples_to teller.place teller.number (chart_entries.told_of teller.at telling.now))) }
+        ++ flat_map json_tokens (chart_entries.samples_to teller.now.place teller.now.number (chart_entries.told_of teller.now.at telling.now))) }
     ensures before { writer.new.before ≡ writer.old.before }
 {
     let only = Audience {
@@ -252,10 +252,10 @@ fn push_each(
     writer: &mut Writer,
     text: &mut String,
     each: &[Telling],
-    teller: Teller,
+    teller: &Teller,
 ) -> Result<(), AllocError>
     ensures tokens { OnOk result (writer.new.tokens ≡ writer.old.tokens
-        ++ flat_map (λ one. flat_map json_tokens (chart_entries.samples_to teller.place teller.number (chart_entries.told_of teller.at one))) each.now) }
+        ++ flat_map (λ one. flat_map json_tokens (chart_entries.samples_to teller.now.place teller.now.number (chart_entries.told_of teller.now.at one))) each.now) }
     ensures before { writer.new.before ≡ writer.old.before }
 {
     for telling in each {
@@ -292,7 +292,7 @@ pub(crate) fn push_told(
         number: piece.number,
         at: told.at,
     };
-    push_each(writer, text, &told.tellings.each, teller)
+    push_each(writer, text, &told.tellings.each, &teller)
 }
 
 /// Where an act stands.

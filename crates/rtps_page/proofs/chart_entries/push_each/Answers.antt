@@ -11,7 +11,7 @@ loop-telling-preserved c =
     let each = c.args.each.now in
     let i = c.loop-telling.telling-index in
     let x = c.telling-item.result in
-    let said : Telling → List Token = λ one. flat_map json_tokens (chart_entries.samples_to c.args.teller.place c.args.teller.number (chart_entries.told_of c.args.teller.at one)) in (
+    let said : Telling → List Token = λ one. flat_map json_tokens (chart_entries.samples_to c.args.teller.now.place c.args.teller.now.number (chart_entries.told_of c.args.teller.now.at one)) in (
       c.in_ok-push_to.ensures.tokens ∙ ap (λ l. l ++ said x) c.loop-telling.invariant.0 ∙ flat_map_more said start (take i each) x
           ∙ ap (λ (done : List Telling). start ++ flat_map said done) (sym (take_more each i x c.loop-telling-test.true ∙ ap (λ y. take i each ++ y ∷ []) (sym c.telling-item.is))),
       c.in_ok-push_to.ensures.before ∙ c.loop-telling.invariant.1,
