@@ -35,6 +35,7 @@ pub mod MergedSteps
 pub mod FragmentWalkLemmas
 pub mod SampleSteps
 pub mod WholeLemmas
+pub mod SampleCountLemmas
 pub mod IndexSteps
 pub mod FragmentCounts
 pub mod WithoutFragments

@@ -13,6 +13,7 @@ pub mod FragmentWalk
 pub mod RecordedSamples
 pub mod Hearing
 pub mod SampleReport
+pub mod SampleCounts
 pub mod Whole
 pub mod Making
 pub mod ReadDatagrams

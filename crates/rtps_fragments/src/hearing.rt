@@ -101,7 +101,7 @@ fn told_act<'a>(reader: Guid, act: &Spoken<'a>, number: SeqNum, told: &ToldSampl
 
 impl<'a> Hearing<'a> {
     /// That of no acts.
-    fn new(alloc: Global, reader: Guid) -> Hearing<'a>
+    pub(crate) fn new(alloc: Global, reader: Guid) -> Hearing<'a>
         ensures { hearing_spec.IsHearing reader [] result }
     {
         Hearing {
@@ -136,7 +136,11 @@ impl<'a> Hearing<'a> {
 
     /// Hears the fragments that an act sends, and appends the samples that it tells the reader, with their octets in the arena. After `Memory`
     /// it is of no use.
-    fn hear_fragments(&mut self, arena: &'a Bump, placed: &Placed<'a>) -> Result<(), Memory>
+    pub(crate) fn hear_fragments(
+        &mut self,
+        arena: &'a Bump,
+        placed: &Placed<'a>,
+    ) -> Result<(), Memory>
         ensures reader { self.new.reader ≡ self.old.reader }
         ensures heard { OnOk result ((before : List sample_acts.PieceAct) → hearing_spec.HaveCome self.old.reader before self.old.makings
             → hearing_spec.HaveCome self.old.reader (before ++ hearing_spec.with_piece (values.spoken_value placed.now.act) ∷ []) self.new.makings

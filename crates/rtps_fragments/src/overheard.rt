@@ -4,7 +4,7 @@ ghost use Rattle.rtps_fragments.specs.Hearing as hearing;
 
 use crate::hearing::heard_of;
 use bumpalo::Bump;
-use rtps_audit::Placed;
+use rtps_audit::{Placed, place};
 use rtps_ids::{EntityId, Guid, GuidPrefix, Memory};
 use rtps_receiver::{FragmentBody, Spoken, SpokenBody};
 use std::alloc::Global;
@@ -14,32 +14,40 @@ use std::slice;
 const EVERY_READER: EntityId = EntityId([0; 4]);
 
 /// A reader that hears what is for everyone.
-const NOBODY: Guid = Guid {
+pub(crate) const NOBODY: Guid = Guid {
     prefix: GuidPrefix([0; 12]),
     entity: EVERY_READER,
 };
 
 /// An act that sends fragments as one for everyone, and any other act as it is.
-fn for_everyone<'a>(placed: &Placed<'a>) -> Placed<'a>
+pub(crate) fn for_everyone<'a>(placed: &Placed<'a>) -> Placed<'a>
     ensures { placed_spec.placed_value result ≡ hearing.for_everyone (placed_spec.placed_value placed.now) }
 {
-    let SpokenBody::DataFrag(fragment) = placed.act.body else {
-        return *placed;
+    let SpokenBody::DataFrag(fragment) = &placed.act.body else {
+        return copy_of(placed);
     };
     if fragment.sent.is_none() {
-        return *placed;
+        return copy_of(placed);
     }
+    let fragment = FragmentBody {
+        reader: EVERY_READER,
+        ..*fragment
+    };
     Placed {
         datagram: placed.datagram,
         act: Spoken {
             dest: None,
-            body: SpokenBody::DataFrag(FragmentBody {
-                reader: EVERY_READER,
-                ..fragment
-            }),
+            body: SpokenBody::DataFrag(fragment),
             ..placed.act
         },
     }
+}
+
+/// The act as it is.
+fn copy_of<'a>(placed: &Placed<'a>) -> Placed<'a>
+    ensures { placed_spec.placed_value result ≡ placed_spec.placed_value placed.now }
+{
+    place(placed.datagram, &placed.act)
 }
 
 /// Acts as one hears them who hears the fragments for whomever: each, and behind it the samples that it tells. They stand in the arena.

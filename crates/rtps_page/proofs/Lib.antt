@@ -5,5 +5,6 @@ pub mod PageLemmas
 pub mod EntryLemmas
 pub mod AnswerLemmas
 pub mod ChartLemmas
+pub mod TellingLemmas
 pub mod TimeLemmas
 pub mod Written
