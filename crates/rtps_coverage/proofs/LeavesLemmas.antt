@@ -7,7 +7,7 @@ use Rattle.std.specs.List.Sorted.{IsNonDecreasingBy}
 use Rattle.std.proofs.Math.Bool.{or_comm, or-true}
 use Rattle.std.proofs.lemmas.Bool.{cases_lt, ltb-true, ltb-false}
 use Rattle.std.proofs.lemmas.Bool.Decides.{nat_tests}
-use Rattle.std.proofs.lemmas.List.{append-nil, drop_more, drop_at, drop-drop, drop_all, drop-append-le, get_or-take, get_or_append_left, get_or_default, length-append, length-drop, length-take, length-take-le, set_split, take-take, take_all, take_at, take-append-drop, take-append-le}
+use Rattle.std.proofs.lemmas.List.{append-nil, drop_more, drop_at, drop-drop, drop_all, drop-append-le, drop-set-lt, get_or-take, get_or_append_left, get_or_default, length-append, length-drop, length-set, length-take, length-take-le, set_split, take-take, take_all, take_at, take-append-drop, take-append-le, take_more, take-set}
 use Rattle.std.proofs.lemmas.List.Concat.{flat_map-append}
 use Rattle.std.proofs.lemmas.List.Elements.{All-nil, All-cons, All-head, All-tail, All-append, All-drop, All-take, All-set}
 use Rattle.std.proofs.lemmas.List.Folds.{list_any-append, list_any_none}
@@ -15,7 +15,7 @@ use Rattle.rtps_coverage.specs.Stretches as stretches
 use Rattle.rtps_coverage.specs.Ranges as ranges
 use Rattle.rtps_coverage.specs.Leaves as leaves_spec
 use Rattle.rtps_coverage.specs.declared.stretch.Stretch.{Stretch}
-use Rattle.rtps_coverage.proofs.RangesLemmas.{AreFurther, all_end, clear_around, clear_has, all_left, all_right, apart_drop, apart_further, apart_left, apart_right, are_ranges, first_from, place_of_first, replaced, three_have}
+use Rattle.rtps_coverage.proofs.RangesLemmas.{AreFurther, all_end, clear_around, clear_has, count_from, all_left, all_right, apart_drop, apart_further, apart_left, apart_right, are_ranges, first_from, place_of_first, replaced, three_have}
 
 -- ---- one leaf among the others
 
@@ -336,6 +336,13 @@ untouched old mid place lo hi end d leaf h for is clear same =
     ∙ sym (split_at old place d for.within)
 
 -- ---- a leaf in halves
+
+-- the leaf that is halved stays where it is
+pub inserted_leaf : (leaves : List (Vec Stretch)) (place : ℕ) (upper d : Vec Stretch) → place < length leaves → get_or (take (place + 1) leaves ++ upper ∷ drop (place + 1) leaves) place d ≡ get_or leaves place d
+inserted_leaf leaves place upper d lt =
+    let size = length-take-le (place + 1) leaves (omega arith) in
+    get_or_append_left (take (place + 1) leaves) (upper ∷ drop (place + 1) leaves) d place (omega arith) ∙ get_or-take (place + 1) leaves place d (omega arith)
+
 pub halved : (leaves : List (Vec Stretch)) (place half : ℕ) (d upper leaf : Vec Stretch) → place < length leaves → upper.items ≡ drop half (get_or leaves place d).items → leaf.items ≡ take half (get_or leaves place d).items
     → leaves_spec.ranges_in (set (take (place + 1) leaves ++ upper ∷ drop (place + 1) leaves) place leaf) ≡ leaves_spec.ranges_in leaves
 halved leaves place half d upper leaf lt high low =
@@ -429,3 +436,40 @@ pub one_bounded : (all : List Stretch) (number : ℕ) (range : Stretch) → rang
 one_bounded all number range h one =
     let rest = apart_right one.before (range ∷ one.after) (subst ranges.AreApart one.is h) in
     rest.0.bounded
+
+-- ---- leaves that are taken out
+
+-- what is left of the leaf and of those behind it lies apart
+pub apart_rest : (x rest x' : List Stretch) (hi end : ℕ) → ranges.AreApart (x ++ rest) → ranges.Absorbs x x' hi end → ranges.AreApart (x' ++ rest)
+apart_rest x rest x' hi end h k =
+    subst ranges.AreApart (drop-append-le k.removed x rest k.within ∙ ap (λ l. l ++ rest) (sym k.is)) (apart_drop k.removed (x ++ rest) h)
+
+-- the leaves without one that was written
+pub emptied : (old new : List (Vec Stretch)) (place : ℕ) (leaf : Vec Stretch) → place < length old → new ≡ take place (set old place leaf) ++ drop (suc place) (set old place leaf)
+    → (take place new ≡ take place old) × (drop place new ≡ drop (place + 1) old) × (length new + 1 ≡ length old)
+emptied old new place leaf lt e =
+    let size = length-set old place leaf in
+    let short = length-take-le place (set old place leaf) (omega arith) in
+    let a = ap length e in
+    let b = length-append (take place (set old place leaf)) (drop (suc place) (set old place leaf)) in
+    let d = length-drop (suc place) (set old place leaf) in (
+      ap (take place) e ∙ take_at (take place (set old place leaf)) (drop (suc place) (set old place leaf)) place short ∙ take-set old place leaf,
+      ap (drop place) e ∙ drop_at (take place (set old place leaf)) (drop (suc place) (set old place leaf)) place short ∙ ap (λ n. drop n (set old place leaf)) (sym (add-one place)) ∙ drop-set-lt (place + 1) old place leaf (omega arith),
+      omega arith,
+    )
+
+-- ---- how many ranges the leaves have
+
+pub count_more : (leaves : List (Vec Stretch)) (i : ℕ) (d : Vec Stretch) → i < length leaves → length (leaves_spec.ranges_in (take (i + 1) leaves)) ≡ length (leaves_spec.ranges_in (take i leaves)) + length (get_or leaves i d).items
+count_more leaves i d lt =
+    ap (λ l. length (leaves_spec.ranges_in l)) (take_more leaves i d lt)
+    ∙ ap length (flat_map-append (λ (leaf : Vec Stretch). leaf.items) (take i leaves) (get_or leaves i d ∷ []))
+    ∙ length-append (leaves_spec.ranges_in (take i leaves)) ((get_or leaves i d).items ++ [])
+    ∙ ap (λ l. length (leaves_spec.ranges_in (take i leaves)) + length l) (append-nil (get_or leaves i d).items)
+
+pub count_within : (leaves : List (Vec Stretch)) (i : ℕ) → leaves_spec.AreKept leaves → length (leaves_spec.ranges_in (take i leaves)) ≤ 2 ^ 63
+count_within leaves i h =
+    let front = leaves_spec.ranges_in (take i leaves) in
+    let apart = apart_left front (leaves_spec.ranges_in (drop i leaves)) (subst ranges.AreApart (split_after leaves i) h.apart) in
+    let bound = count_from front 0 apart (λ k d lt. omega arith) (omega arith) in
+    omega arith

@@ -4,7 +4,7 @@ use Rattle.std.specs.Prelude.{zero, suc, Result, Ok, Err, OnErr, OnOk}
 use Rattle.std.specs.List.{list_any, AllWithin}
 use Rattle.std.specs.List.Sorted.{IsNonDecreasingBy}
 use Rattle.std.proofs.Math.Bool.{or_comm}
-use Rattle.std.proofs.lemmas.Bool.{cases_lt, ltb-true, ltb-false}
+use Rattle.std.proofs.lemmas.Bool.{cases_lt, false≢true, ltb-true, ltb-false}
 use Rattle.std.proofs.lemmas.Bool.Decides.{nat_tests}
 use Rattle.std.proofs.lemmas.List.{drop_more, drop_at, drop-drop, drop_all, drop-append-le, get_or-drop, get_or-take, get_or_append_left, get_or_default, length-append, length-drop, length-take, length-take-le, set_split, take-take, take_all, take_at, take-append-drop}
 use Rattle.std.proofs.lemmas.List.Elements.{All-nil, All-cons, All-head, All-tail, All-append, All-drop}
@@ -384,6 +384,10 @@ pub err_then : {T E : Type 0} {P Q : Type 0} (r : Result T E) → (P → Q) → 
 err_then (Ok x) f p = tt
 err_then (Err e) f p = f p
 
+pub err_both : {T E : Type 0} {P Q S : Type 0} (r : Result T E) → (P → Q → S) → OnErr r P → OnErr r Q → OnErr r S
+err_both (Ok x) f p q = tt
+err_both (Err e) f p q = f p q
+
 -- ranges that lie apart are not more than numbers
 pub count_from : (xs : List Stretch) (from : ℕ) → ranges.AreApart xs → All (λ range. from ≤ range.lo) xs → from ≤ 2 ^ 63 → from + length xs ≤ 2 ^ 63
 count_from [] from h all le = omega arith
@@ -406,3 +410,8 @@ clear_has xs lo hi n clear from to =
     past_it m from to le = grind (arith, nat_tests)
     before_it : (m from to : ℕ) → m < from → (nat_le from m && nat_lt m to) ≡ false
     before_it m from to lt = grind (arith, nat_tests)
+
+-- where the numbers overlap or touch a range, there is no range more
+pub touching_fewer : (old new : List Stretch) (lo hi n : ℕ) → ranges.Counts old new lo hi → stretches.stretches_have old n ≡ true → lo ≤ n + 1 → n ≤ hi → length new ≤ length old
+touching_fewer old new lo hi n (inl fewer) there from to = fewer
+touching_fewer old new lo hi n (inr more) there from to = absurd (false≢true (sym (clear_has old lo hi n more.1 from to) ∙ there))

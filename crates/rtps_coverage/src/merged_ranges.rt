@@ -79,8 +79,12 @@ impl Coverage for MergedRanges {
         if hi <= lo {
             return Ok(());
         }
-        let (lo, hi) = (lo.cast_unsigned(), hi.cast_unsigned());
-        join_leaves(self.alloc, &mut self.leaves, lo, hi)
+        join_leaves(
+            self.alloc,
+            &mut self.leaves,
+            lo.cast_unsigned(),
+            hi.cast_unsigned(),
+        )
     }
 
     fn front(&self) -> i64 {
