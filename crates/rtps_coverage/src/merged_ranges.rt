@@ -1,4 +1,6 @@
-ghost use Rattle.std.specs.Prelude.{ℕ, ◌≡◌, ◌==◌, ◌≤◌, ◌<◌, MatchOption, false};
+ghost use Rattle.std.specs.Prelude.{ℕ, ◌≡◌, ◌==◌, ◌≤◌, ◌<◌, ◌^◌, MatchOption, false};
+ghost use Rattle.std.proofs.Props.{props};
+ghost use Rattle.rtps_coverage.specs.Ranges as ranges_spec;
 ghost use Rattle.rtps_coverage.specs.Leaves as leaves_spec;
 
 use crate::coverage::Coverage;
@@ -16,7 +18,7 @@ use std::alloc::Global;
 pub struct MergedRanges {
     leaves: Vec<Vec<Stretch>>,
     alloc: Global,
-    ghost kept: { leaves_spec.AreKept leaves.items },
+    ghost kept: { leaves_spec.AreKept leaves.items } by { Prim.hlevel (props, ranges_spec.are_apart_prop) },
 }
 
 impl MergedRanges {
