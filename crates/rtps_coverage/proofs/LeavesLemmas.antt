@@ -76,9 +76,9 @@ front_ends number count leaves h within low =
     all_leaves_end number (take count leaves) (All-take (λ (leaf : Vec Stretch). 0 < length leaf.items) count leaves h.filled)
     (apart_left (leaves_spec.ranges_in (take count leaves)) (leaves_spec.ranges_in (drop count leaves)) (subst ranges.AreApart (split_after leaves count) h.apart))
     (λ k d lt.
-      let size = length-take-le count leaves within in
-      let below : k < count = omega arith in
-      subst (λ (leaf : Vec Stretch). ranges.end_of leaf.items < number) (sym (get_or-take count leaves k d below)) (ltb-true _ _ (low k d (omega arith) below)))
+    let size = length-take-le count leaves within in
+    let below : k < count = omega arith in
+    subst (λ (leaf : Vec Stretch). ranges.end_of leaf.items < number) (sym (get_or-take count leaves k d below)) (ltb-true _ _ (low k d (omega arith) below)))
 
 -- ---- the leaf for a number
 
@@ -261,9 +261,9 @@ clear_of_all leaves place lo hi end d new h leaf absorbs past clear =
     let beyond = subst (ranges.BeginPast end) (untaken later new hi end absorbs (none_taken leaves place lo hi end d new h leaf absorbs clear)) past in
     subst (All P) (sym (split_at leaves place d leaf.within))
     (All-append P (leaves_spec.ranges_in (take place leaves)) (x ++ later) (λ k e lt. inl (leaf.before k e lt))
-      (All-append P x later
-        (λ k e lt. elim (clear k e lt) [ inl before ↦ inl before | inr after ↦ inr (omega arith) ])
-        (λ k e lt. let after = beyond k e lt in inr (omega arith))))
+    (All-append P x later
+    (λ k e lt. elim (clear k e lt) [ inl before ↦ inl before | inr after ↦ inr (omega arith) ])
+    (λ k e lt. let after = beyond k e lt in inr (omega arith))))
 
 -- the leaves after the first step: those up to the place are as before, and of the later ones the first ranges are taken out
 pub record IsMid (old mid : List (Vec Stretch)) (place hi end : ℕ) : Type 0 where
@@ -301,7 +301,7 @@ joined old mid place lo hi end d leaf h for one is joins =
     let some = one.some in
     subst (λ l. ranges.Joins (leaves_spec.ranges_in old) l lo hi) (sym (after_write old mid place hi end leaf for.within is))
     (subst (λ l. ranges.Joins l (before ++ (leaf.items ++ later')) lo hi) (sym split)
-      (replaced before x later leaf.items later' lo hi hi end (subst ranges.AreApart split h.apart) for.before (later_from old place lo d h for) (omega arith) (omega arith) (λ n. refl) (λ bound lt all. lt) joins is.absorbs is.past))
+    (replaced before x later leaf.items later' lo hi hi end (subst ranges.AreApart split h.apart) for.before (later_from old place lo d h for) (omega arith) (omega arith) (λ n. refl) (λ bound lt all. lt) joins is.absorbs is.past))
 
 pub counted : (old mid : List (Vec Stretch)) (place lo hi end : ℕ) (d leaf : Vec Stretch) → leaves_spec.AreKept old → leaves_spec.IsLeafFor lo old place → IsMid old mid place hi end
     → ranges.Counts (get_or old place d).items leaf.items lo end → ranges.Counts (leaves_spec.ranges_in old) (leaves_spec.ranges_in (set mid place leaf)) lo hi
@@ -399,10 +399,10 @@ one_in leaves place number count d range h for parted lt is begins =
       before = before ++ take count x;
       after = drop (count + 1) x ++ later;
       is =
-        split_at leaves place d for.within
-        ∙ ap (λ l. before ++ (l ++ later)) split
-        ∙ ap (λ l. before ++ l) (append_assoc (take count x) (range ∷ drop (count + 1) x) later)
-        ∙ sym (append_assoc before (take count x) (range ∷ (drop (count + 1) x ++ later)));
+          split_at leaves place d for.within
+          ∙ ap (λ l. before ++ (l ++ later)) split
+          ∙ ap (λ l. before ++ l) (append_assoc (take count x) (range ∷ drop (count + 1) x) later)
+          ∙ sym (append_assoc before (take count x) (range ∷ (drop (count + 1) x ++ later)));
       from = begins;
       to = omega arith;
     }
@@ -416,10 +416,10 @@ end_outside all number range h with =
     let first = apart_further with.before (range ∷ with.after) apart 0 range (omega arith) in
     ap (λ l. stretches.stretches_have l range.hi) with.is
     ∙ clear_has (with.before ++ range ∷ with.after) (range.hi + 1) range.hi range.hi
-      (All-append (λ other. (other.hi < range.hi + 1) ⊎ (range.hi < other.lo)) with.before (range ∷ with.after)
-        (λ k d lt. let ends = first k d lt in inl (omega arith))
-        (All-cons (λ other. (other.hi < range.hi + 1) ⊎ (range.hi < other.lo)) range with.after (inl (omega arith)) (λ k d lt. inr (rest.1 k d lt))))
-      (omega arith) (omega arith)
+    (All-append (λ other. (other.hi < range.hi + 1) ⊎ (range.hi < other.lo)) with.before (range ∷ with.after)
+    (λ k d lt. let ends = first k d lt in inl (omega arith))
+    (All-cons (λ other. (other.hi < range.hi + 1) ⊎ (range.hi < other.lo)) range with.after (inl (omega arith)) (λ k d lt. inr (rest.1 k d lt))))
+    (omega arith) (omega arith)
 
 -- each number of a range is in one of all, and its end is in range
 pub in_one : (all : List Stretch) (number n : ℕ) (range : Stretch) → ranges.IsRangeWith all number range → range.lo ≤ n → n < range.hi → stretches.stretches_have all n ≡ true

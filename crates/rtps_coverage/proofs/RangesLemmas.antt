@@ -229,10 +229,10 @@ replaced before x later x' later' lo hi further end h ends from ordered onward s
     let kept : (P : Stretch → Type 0) → All P later → All P later' = λ P all. subst (All P) (sym absorbs.is) (All-drop P absorbs.removed later all) in
     record {
       apart =
-        apart_both before (x' ++ later') (apart_left before (x ++ later) h)
-        (apart_both x' later' joins.apart (subst ranges.AreApart (sym absorbs.is) (apart_drop absorbs.removed later (apart_right x later rest)))
+          apart_both before (x' ++ later') (apart_left before (x ++ later) h)
+          (apart_both x' later' joins.apart (subst ranges.AreApart (sym absorbs.is) (apart_drop absorbs.removed later (apart_right x later rest)))
           (λ k d lt. joins.high (get_or later' k d).lo (past k d lt) (kept (λ range. ranges.EndBefore range.lo x) (apart_further x later rest) k d lt)))
-        (All-append (λ range. ranges.EndBefore range.lo before) x' later'
+          (All-append (λ range. ranges.EndBefore range.lo before) x' later'
           (λ k d lt i e short. joins.low (get_or before i e).hi (ends i e short) (λ j f within. all_left (λ range. ranges.EndBefore range.lo before) x later out j f within i e short) k d lt)
           (kept (λ range. ranges.EndBefore range.lo before) (all_right (λ range. ranges.EndBefore range.lo before) x later out)));
       has = λ n.
@@ -271,8 +271,8 @@ inserted xs new place lo hi h parted past one e =
     let some = one.some in
     subst (λ l. ranges.Joins l new lo hi) parts
     (subst (λ l. ranges.Joins (take place xs ++ drop place xs) l lo hi) (sym e)
-      (replaced (take place xs) [] (drop place xs) (record { lo = lo; hi = hi } ∷ []) (drop place xs) lo hi hi hi (subst ranges.AreApart (sym parts) h) parted.before
-        (λ k d lt. let later = past k d lt in omega arith) (omega arith) (omega arith) (λ n. refl) (λ bound lt all. lt) (lone lo hi one) (absorbs_none (drop place xs) hi) past))
+    (replaced (take place xs) [] (drop place xs) (record { lo = lo; hi = hi } ∷ []) (drop place xs) lo hi hi hi (subst ranges.AreApart (sym parts) h) parted.before
+    (λ k d lt. let later = past k d lt in omega arith) (omega arith) (omega arith) (λ n. refl) (λ bound lt all. lt) (lone lo hi one) (absorbs_none (drop place xs) hi) past))
 
 -- two ranges that overlap or touch are one
 wider : (from to lo hi end n : ℕ) → from ≤ hi → lo ≤ to → lo < hi → to ≤ end → hi ≤ end
@@ -325,11 +325,11 @@ grown xs later new x place lo hi end h lt is parted begins one absorbs past e =
     let bounded : end < 2 ^ 63 = absorbs.ends (2 ^ 63) (let a = here.bounded in let b = one.bounded in omega arith) (λ k d short. (are_ranges (drop (place + 1) xs) rest.2 k d short).bounded) in
     subst (λ l. ranges.Joins l new lo hi) (sym split)
     (subst (λ l. ranges.Joins (take place xs ++ x ∷ drop (place + 1) xs) l lo hi) (sym e)
-      (replaced (take place xs) (x ∷ []) (drop (place + 1) xs) (record { lo = min lo x.lo; hi = end } ∷ []) later lo hi (max hi x.hi) end whole parted.before
-        (λ k d short. let a = rest.1 k d short in omega arith) (omega arith) (omega arith)
-        (λ n. or_none (stretches.stretch_has n x) _ ∙ reached x.lo x.hi lo hi n begins reaches ∙ sym (or_none (stretches.stretch_has n x) _))
-        (λ bound short all. let a = All-head (λ range. range.hi < bound) x [] all in omega arith)
-        (grows x lo hi end here one begins reaches (omega arith) (omega arith) bounded) absorbs past))
+    (replaced (take place xs) (x ∷ []) (drop (place + 1) xs) (record { lo = min lo x.lo; hi = end } ∷ []) later lo hi (max hi x.hi) end whole parted.before
+    (λ k d short. let a = rest.1 k d short in omega arith) (omega arith) (omega arith)
+    (λ n. or_none (stretches.stretch_has n x) _ ∙ reached x.lo x.hi lo hi n begins reaches ∙ sym (or_none (stretches.stretch_has n x) _))
+    (λ bound short all. let a = All-head (λ range. range.hi < bound) x [] all in omega arith)
+    (grows x lo hi end here one begins reaches (omega arith) (omega arith) bounded) absorbs past))
 
 -- a range that takes in all numbers from lo on and below hi stays
 pub unchanged : (xs : List Stretch) (x : Stretch) (place lo hi : ℕ) → ranges.AreApart xs → place < length xs → x ≡ get_or xs place x → x.lo ≤ lo → hi ≤ x.hi → lo < hi → ranges.Joins xs xs lo hi
@@ -408,6 +408,7 @@ clear_has xs lo hi n clear from to =
   where
     past_it : (m from to : ℕ) → to ≤ m → (nat_le from m && nat_lt m to) ≡ false
     past_it m from to le = grind (arith, nat_tests)
+
     before_it : (m from to : ℕ) → m < from → (nat_le from m && nat_lt m to) ≡ false
     before_it m from to lt = grind (arith, nat_tests)
 

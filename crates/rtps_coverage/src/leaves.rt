@@ -114,12 +114,7 @@ fn begin(alloc: Global, leaves: &mut Vec<Vec<Stretch>>, range: Stretch) -> Resul
 }
 
 /// Joins the numbers from `lo` on and below `hi` in the leaf for `lo`. After `Memory` the ranges are the same.
-fn join_at(
-    leaves: &mut Vec<Vec<Stretch>>,
-    place: usize,
-    lo: u64,
-    hi: u64,
-) -> Result<(), Memory>
+fn join_at(leaves: &mut Vec<Vec<Stretch>>, place: usize, lo: u64, hi: u64) -> Result<(), Memory>
     requires kept { leaves_spec.AreKept leaves.old.items }
     requires place { leaves_spec.IsLeafFor lo leaves.old.items place }
     requires joined { ranges_spec.IsRange (record { lo = lo; hi = hi }) }

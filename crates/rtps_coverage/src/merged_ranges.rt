@@ -44,7 +44,7 @@ impl MergedRanges {
     pub fn is_empty(&self) -> bool
         ensures { result ≡ (merged_ranges.count_of self.now == 0) }
     {
-        self.leaves.is_empty()
+        self.len() == 0
     }
 }
 

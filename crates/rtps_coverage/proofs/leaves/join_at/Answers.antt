@@ -78,5 +78,5 @@ returns-clause-clear c =
     let here : leaf ≡ get_or old c.args.place leaf = c.index_mut.ensures.value ∙ same_leaf old mid c.args.place leaf c.absorb_leaves-end.ensures.front in
     err_then c.join.result
     (λ clear. clear_of_all old c.args.place c.args.lo c.args.hi end leaf (leaves_spec.ranges_in (drop (c.args.place + 1) mid)) c.requires.kept c.requires.place c.absorb_leaves-end.ensures.absorbs c.absorb_leaves-end.ensures.past
-      (subst (λ (l : Vec Stretch). ranges.AreClear c.args.lo end l.items) here clear))
+    (subst (λ (l : Vec Stretch). ranges.AreClear c.args.lo end l.items) here clear))
     c.join.ensures.clear
