@@ -2,20 +2,20 @@
 use Rattle.std.proofs.Common.{ℕ, Bool, true, false, ◌≡◌, ◌≤◌, ◌<◌, ◌+◌, ◌-◌, ◌^◌, ◌&&◌, ◌||◌, ◌⊎◌, nat_le, nat_lt, ltb, List, [], ◌∷◌, ◌++◌, All, length, take, drop, get_or, set, refl, sym, ap, ◌∙◌, subst, inl, inr, arith, add-one, append_assoc}
 use Rattle.std.specs.Prelude.{zero, suc}
 use Rattle.std.specs.Global.{Vec}
-use Rattle.std.specs.List.{flat_map, list_any, AllWithin, HoldsAt}
+use Rattle.std.specs.List.{AllWithin, HoldsAt}
 use Rattle.std.specs.List.Sorted.{IsNonDecreasingBy}
 use Rattle.std.proofs.Math.Bool.{or_comm, or-true}
-use Rattle.std.proofs.lemmas.Bool.{cases_lt, ltb-true, ltb-false}
+use Rattle.std.proofs.lemmas.Bool.{cases_lt, ltb-true}
 use Rattle.std.proofs.lemmas.Bool.Decides.{nat_tests}
-use Rattle.std.proofs.lemmas.List.{append-nil, drop_more, drop_at, drop-drop, drop_all, drop-append-le, drop-set-lt, get_or-take, get_or_append_left, get_or_default, length-append, length-drop, length-set, length-take, length-take-le, set_split, take-take, take_all, take_at, take-append-drop, take-append-le, take_more, take-set}
+use Rattle.std.proofs.lemmas.List.{append-nil, drop_more, drop_at, drop-drop, drop_all, drop-append-le, drop-set-lt, get_or-take, get_or_append_left, length-append, length-drop, length-set, length-take, length-take-le, set_split, take-take, take_all, take_at, take-append-drop, take-append-le, take_more, take-set}
 use Rattle.std.proofs.lemmas.List.Concat.{flat_map-append}
-use Rattle.std.proofs.lemmas.List.Elements.{All-nil, All-cons, All-head, All-tail, All-append, All-drop, All-take, All-set}
-use Rattle.std.proofs.lemmas.List.Folds.{list_any-append, list_any_none}
+use Rattle.std.proofs.lemmas.List.Elements.{All-nil, All-cons, All-head, All-tail, All-append, All-drop, All-take}
+use Rattle.std.proofs.lemmas.List.Folds.{list_any-append}
 use Rattle.rtps_coverage.specs.Stretches as stretches
 use Rattle.rtps_coverage.specs.Ranges as ranges
 use Rattle.rtps_coverage.specs.Leaves as leaves_spec
 use Rattle.rtps_coverage.specs.declared.stretch.Stretch.{Stretch}
-use Rattle.rtps_coverage.proofs.RangesLemmas.{AreFurther, all_end, clear_around, clear_has, count_from, all_left, all_right, apart_drop, apart_further, apart_left, apart_right, are_ranges, first_from, place_of_first, replaced, three_have}
+use Rattle.rtps_coverage.proofs.RangesLemmas.{all_end, clear_around, clear_has, count_from, all_left, all_right, apart_drop, apart_further, apart_left, apart_right, are_ranges, first_from, replaced, three_have}
 
 -- ---- one leaf among the others
 

@@ -1,5 +1,5 @@
 -- Ranges in leaves. own: a number is then added where it belongs, with no move of many ranges.
-use Rattle.std.specs.Prelude.{ℕ, ◌<◌, ◌≤◌, ◌+◌, List, All, length, take, drop}
+use Rattle.std.specs.Prelude.{ℕ, ◌<◌, ◌≤◌, ◌+◌, List, All, length, take}
 use Rattle.std.specs.List.{flat_map, HoldsAt}
 use Rattle.std.specs.Global.{Vec}
 use Rattle.rtps_coverage.specs.Ranges as ranges

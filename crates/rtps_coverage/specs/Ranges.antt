@@ -1,6 +1,6 @@
 -- Ranges in the order of their numbers, of which no two overlap or touch.
 -- own: so many ranges are kept as there are gaps between numbers, in whatever order the numbers came.
-use Rattle.std.specs.Prelude.{ℕ, Bool, ◌≡◌, ◌≤◌, ◌<◌, ◌+◌, ◌-◌, ◌^◌, ◌||◌, ◌&&◌, ◌⊎◌, nat_le, nat_lt, List, [], ◌∷◌, ◌++◌, All, length, take, drop, slice_index_or}
+use Rattle.std.specs.Prelude.{ℕ, ◌≡◌, ◌≤◌, ◌<◌, ◌+◌, ◌-◌, ◌^◌, ◌||◌, ◌&&◌, ◌⊎◌, nat_le, nat_lt, List, [], ◌∷◌, ◌++◌, All, length, take, drop, slice_index_or}
 use native.Mathlib.Bridge.{le_prop}
 use mathlib.Core.HLevel.{Unit-prop}
 use Rattle.rtps_coverage.specs.Stretches as stretches
@@ -22,6 +22,7 @@ AreApart (range ∷ later) = IsRange range × All (λ other. range.hi < other.lo
 is_range_prop : (range : Stretch) → IsProp (IsRange range)
 is_range_prop range a b = λ i. record { positive = le_prop a.positive b.positive i; some = le_prop a.some b.some i; bounded = le_prop a.bounded b.bounded i }
 
+-- that ranges lie apart has one proof at most
 pub are_apart_prop : (ranges : List Stretch) → IsProp (AreApart ranges)
 are_apart_prop [] a b = Unit-prop a b
 are_apart_prop (range ∷ later) a b = λ i. (is_range_prop range a.0 b.0 i, λ k d lt. le_prop (a.1 k d lt) (b.1 k d lt) i, are_apart_prop later a.2 b.2 i)

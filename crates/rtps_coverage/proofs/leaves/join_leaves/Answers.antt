@@ -1,4 +1,4 @@
-use Rattle.std.proofs.Common.{◌∙◌, ◌≤◌, sym, ap, subst, length, rules, arith}
+use Rattle.std.proofs.Common.{◌∙◌, ◌≤◌, sym, subst, length, rules}
 use Rattle.std.proofs.lemmas.Bool.{false≢true}
 use Rattle.rtps_coverage.specs.Leaves as leaves_spec
 use Rattle.rtps_coverage.proofs.RangesLemmas.{clear_has, touching_fewer}

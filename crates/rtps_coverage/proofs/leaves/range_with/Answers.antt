@@ -1,4 +1,4 @@
-use Rattle.std.proofs.Common.{ℕ, ◌≡◌, ◌≤◌, ◌<◌, ◌+◌, ◌∙◌, sym, ap, subst, drop, get_or, length, length-drop, List, arith}
+use Rattle.std.proofs.Common.{◌≡◌, ◌<◌, ◌+◌, ◌∙◌, sym, ap, subst, get_or, length, length-drop, arith}
 use Rattle.std.specs.Global.{Vec}
 use Rattle.rtps_coverage.specs.Ranges as ranges
 use Rattle.rtps_coverage.specs.declared.stretch.Stretch.{Stretch}

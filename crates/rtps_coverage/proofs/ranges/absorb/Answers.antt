@@ -1,4 +1,4 @@
-use Rattle.std.proofs.Common.{◌∙◌, ◌+◌, sym, subst, drop, length, max, refl, arith}
+use Rattle.std.proofs.Common.{◌∙◌, ◌+◌, sym, subst, drop, max, refl, arith}
 use Rattle.rtps_coverage.specs.Ranges as ranges
 use Rattle.rtps_coverage.proofs.RangesLemmas.{absorbs_none, absorbs_more, removed_at, place_of_first}
 use Rattle.rtps_coverage.proofs.ranges.absorb.Goals as goal

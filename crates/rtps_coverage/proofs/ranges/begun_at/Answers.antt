@@ -1,4 +1,4 @@
-use Rattle.std.proofs.Common.{◌<◌, length, arith}
+use Rattle.std.proofs.Common.{arith}
 use Rattle.rtps_coverage.specs.Ranges as ranges
 use Rattle.rtps_coverage.proofs.RangesLemmas.{past_at}
 use Rattle.rtps_coverage.proofs.ranges.begun_at.Goals as goal
