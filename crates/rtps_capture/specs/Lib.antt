@@ -1,11 +1,17 @@
+pub mod Advancing
+pub mod Agreement
+pub mod Alike
 pub mod Assembly
 pub mod Blocks
 pub mod Capture
 pub mod Checksum
+pub mod Course
 pub mod Forgetting
 pub mod Frames
 pub mod Layout
+pub mod Left
 pub mod LinkTypes
+pub mod Noting
 pub mod OctetNumbers
 pub mod Opening
 pub mod Options

@@ -91,16 +91,16 @@ struct Collected {
 
 /// How many frames there were so far, and of what kinds.
 #[derive(Clone, Copy, Default)]
-struct Counts {
-    frames: u64,
+pub(crate) struct Counts {
+    pub(crate) frames: u64,
     /// Frames with a fragment that is no repeat.
-    fresh: u64,
+    pub(crate) fresh: u64,
     /// Those of them whose packet was whole. One packet has fewer than 2^64.
-    settled: u128,
-    cut: u64,
-    other: u64,
-    links: u64,
-    first_link: Option<u32>,
+    pub(crate) settled: u128,
+    pub(crate) cut: u64,
+    pub(crate) other: u64,
+    pub(crate) links: u64,
+    pub(crate) first_link: Option<u32>,
 }
 
 /// The datagrams of a capture of those that are read, whose octets it keeps; after one of more than `most` datagrams nothing is

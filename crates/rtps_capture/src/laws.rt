@@ -1,5 +1,6 @@
 //! Laws of the definitions, as contracts of functions that do nothing.
 
+ghost use Rattle.rtps_capture.specs.Agreement as agreement;
 ghost use Rattle.rtps_capture.specs.Capture as capture;
 ghost use Rattle.rtps_capture.specs.Forgetting as forgetting;
 ghost use Rattle.rtps_capture.specs.Frames as frames;
@@ -39,6 +40,12 @@ pub fn each_packet_is_given()
 /// stand pieces of fewer than 64 others: no more than 64, however long the file is.
 pub fn keys_are_forgotten()
     ensures { forgetting.KeysAreForgotten }
+{}
+
+/// What [`crate::CaptureReader`] tells of a file, datagram by datagram, is what [`crate::read_capture`] tells of all of it: the same datagrams in
+/// their order, with their times and frames, and the same numbers, or the same fault.
+pub fn course_is_told()
+    ensures { agreement.CourseIsTold }
 {}
 
 /// The numbers, sizes and places that readers and definitions name are those of the standards.
