@@ -189,7 +189,7 @@ keyed_grown file kept more [] (d ∷ others) all = absurd all
 keyed_grown file kept more (c ∷ ones) [] all = absurd all
 keyed_grown file kept more (c ∷ ones) (d ∷ others) all = (
   all.0,
-  record { making = grown file kept more c.making.making d.making.making all.1.making; given = grown file kept more c.making.given d.making.given all.1.assembly.given },
+  record { making = grown file kept more c.making.making d.making.making all.1.making; given = grown file kept more c.making.given d.making.given all.1.given },
   keyed_grown file kept more ones others all.2,
 )
 
