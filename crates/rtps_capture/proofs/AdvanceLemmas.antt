@@ -1,137 +1,119 @@
 -- A reader of captures goes on by the course of what is left.
-use Rattle.std.proofs.Common.{◌≡◌, ℕ, true, false, List, ◌++◌, length, refl, sym, ap, ap₂, subst, ◌∙◌}
-use Rattle.std.specs.Prelude.{None, Option, Some, Result, Ok, Err, IfSome, option_map}
+use Rattle.std.proofs.Common.{◌≡◌, ℕ, true, false, List, [], ◌++◌, length, refl, sym, ap, ap₂, ◌∙◌, append_assoc}
+use Rattle.std.specs.Prelude.{None, Option, Some, Result, Ok, Err, option_map}
 use Rattle.std.specs.Option.{is_some}
-use Rattle.std.specs.Io.KnownBytes.{prepend_known}
 use Rattle.rtps_capture.specs.Advancing as advancing
+use Rattle.rtps_capture.specs.Alike as alike
 use Rattle.rtps_capture.specs.Capture as capture
 use Rattle.rtps_capture.specs.Course as course_spec
-use Rattle.rtps_capture.specs.Frames as frames
+use Rattle.rtps_capture.specs.Frames as frames_spec
+use Rattle.rtps_capture.specs.Held as held_spec
 use Rattle.rtps_capture.specs.Left as left_spec
 use Rattle.rtps_capture.specs.Noting as noting
 use Rattle.rtps_capture.specs.declared.capture.CaptureFault.{CaptureFault}
-use Rattle.rtps_capture.specs.declared.capture_reader.Summary.{Summary}
 use Rattle.rtps_capture.specs.declared.captures.Captures.{Captures}
 use Rattle.rtps_capture.specs.declared.frames.Frame.{Frame}
 use Rattle.rtps_capture.specs.declared.frames.Frames.{Frames}
 use Rattle.rtps_capture.specs.declared.notes.Found.{Found}
 use Rattle.rtps_capture.specs.declared.notes.Notes.{Notes as NotesStruct}
 use Rattle.rtps_capture.specs.declared.read_fault.ReadFault.{ReadFault}
-use Rattle.rtps_capture.proofs.CourseLemmas.{course_ends, course_goes_on}
+use Rattle.rtps_capture.proofs.CourseLemmas.{course_ends, course_given}
+use Rattle.rtps_capture.proofs.HeldLemmas.{may_come, reads_none, reads_on}
+use Rattle.rtps_capture.proofs.SettledLemmas.{course_settled}
 
-some_same : {X : Type 0} (a b : X) → Some a ≡ Some b → a ≡ b
-some_same a b is = cc
+-- frames were read that gave no datagram: what is told behind them is what was told
+pub record GoesOn (unread left : Option (List ℕ)) (one : NotesStruct) (old : held_spec.HeldValue) (before : Frames) (other : NotesStruct) (new : held_spec.HeldValue) (after : Frames) : Type 0 where
+  pub more : List ℕ
+  pub reads : held_spec.Reads unread left old new more
+  pub same : (later : List ℕ) → held_spec.MayCome new later → advancing.course_at one old before (more ++ later) ≡ advancing.course_at other new after later
 
--- the course is known before a frame that was given: it goes on with what the frame gives
-goes_on : (course : course_spec.Course) (notes : NotesStruct) (left : Option (List ℕ)) (held : List ℕ) (rest : Option (List ℕ)) (before after : Frames) (frame : Frame) (captures : Captures)
-    → advancing.course_known notes (left_spec.unread_known left before) ≡ Some course → left_spec.GivesFrame (left_spec.unread_known left before) (left_spec.unread_known (prepend_known held rest) after) (Some frame)
-    → frames.StandsInFile (length held) frame → captures ≡ before.captures
-    → (more : List ℕ) × (rest ≡ Some more)
-    × (course ≡ course_spec.course_with (course_spec.frame_gives captures notes.most held (noting.notes_of notes) frame) (λ next. course_spec.course_left notes.most next (frames.unread_of (held ++ more) after)))
-goes_on course notes None held rest before after frame captures known gives stands same = absurd cc
-goes_on course notes (Some left) held rest before after frame captures known gives stands same =
-    let goes = course_goes_on notes.most (noting.notes_of notes) left held rest before after frame gives stands in (
-      goes.0,
-      goes.1,
-      sym (some_same (course_spec.course_left notes.most (noting.notes_of notes) (frames.unread_of left before)) course known) ∙ goes.2
-          ∙ ap (λ (c : Captures). course_spec.course_with (course_spec.frame_gives c notes.most held (noting.notes_of notes) frame) (λ next. course_spec.course_left notes.most next (frames.unread_of (held ++ goes.0) after))) (sym same),
-    )
+pub goes_nowhere : (unread : Option (List ℕ)) (notes : NotesStruct) (held : held_spec.HeldValue) (frames : Frames) → GoesOn unread unread notes held frames notes held frames
+goes_nowhere unread notes held frames = record { more = []; reads = reads_none unread held; same = λ later may. refl }
 
--- no frame is left
-pub ends_known : (initial : Option course_spec.Course) (notes : NotesStruct) (left other : Option (List ℕ)) (before after : Frames) (datagram : Option course_spec.DatagramValue)
-    → IfSome initial (λ course. advancing.course_known notes (left_spec.unread_known left before) ≡ Some course) → left_spec.GivesFrame (left_spec.unread_known left before) (left_spec.unread_known other after) None
-    → advancing.Advances initial (advancing.course_known notes (left_spec.unread_known other after)) (course_spec.summary_of (noting.notes_of notes)) datagram (Ok false)
-ends_known None notes left other before after datagram known gives = tt
-ends_known (Some course) notes None other before after datagram known gives = absurd cc
-ends_known (Some course) notes (Some left) None before after datagram known gives = absurd gives
-ends_known (Some course) notes (Some left) (Some other) before after datagram known gives =
-    let was = sym (some_same (course_spec.course_left notes.most (noting.notes_of notes) (frames.unread_of left before)) course known) ∙ course_ends notes.most (noting.notes_of notes) (frames.unread_of left before) gives.0 in
-    let is = course_ends notes.most (noting.notes_of notes) (frames.unread_of other after) gives.1 in (was, is ∙ sym was)
+-- a frame was given behind them, and what was noted was settled
+pub record Gave (unread left : Option (List ℕ)) (one : NotesStruct) (old : held_spec.HeldValue) (before : Frames) (captures : Captures) (notes : NotesStruct) (frame : Frame) (new : held_spec.HeldValue) (after : Frames) : Type 0 where
+  pub more : List ℕ
+  pub reads : held_spec.Reads unread left old new more
+  pub goes : (later : List ℕ) → held_spec.MayCome new later
+      → advancing.course_at one old before (more ++ later)
+      ≡ course_spec.course_with (course_spec.frame_gives captures notes.most new.octets (noting.notes_of notes) frame) (λ next. course_spec.course_left notes.most next (frames_spec.unread_of (new.octets ++ later) after))
 
--- a frame gives a fault
-fault_ends : (course : course_spec.Course) (given : Result course_spec.Given CaptureFault) (more : course_spec.Notes → course_spec.Course) (fault : CaptureFault) → course ≡ course_spec.course_with given more → capture.IsFault given fault
-    → advancing.IsEnd course (ReadFault.Capture fault)
-fault_ends course given more CaptureFault.Memory is faulty = tt
-fault_ends course given more CaptureFault.BadCapture is faulty = is ∙ ap (λ (g : Result course_spec.Given CaptureFault). course_spec.course_with g more) faulty
-fault_ends course given more (CaptureFault.Damaged frame) is faulty = is ∙ ap (λ (g : Result course_spec.Given CaptureFault). course_spec.course_with g more) faulty
-fault_ends course given more (CaptureFault.CutCapture frame) is faulty = is ∙ ap (λ (g : Result course_spec.Given CaptureFault). course_spec.course_with g more) faulty
-fault_ends course given more CaptureFault.TooMany is faulty = is ∙ ap (λ (g : Result course_spec.Given CaptureFault). course_spec.course_with g more) faulty
+pub frame_gave : (a b c : Option (List ℕ)) (one other settled : NotesStruct) (x y z : held_spec.HeldValue) (f g h : Frames) (frame : Frame) (captures : Captures) → GoesOn a b one x f other y g
+    → left_spec.GivesNext b c y z g h (Some frame) → frames_spec.StandsInFile (length z.octets) frame → captures ≡ g.captures → alike.Settles (noting.notes_of other) (noting.notes_of settled)
+    → settled.most ≡ other.most → Gave a c one x f captures settled frame z h
+frame_gave a b c one other settled x y z f g h frame captures so next stands same settles most = record {
+  more = so.more ++ next.more;
+  reads = reads_on a b c x y z so.more next.more so.reads next.reads;
+  goes = λ later may.
+      let there = frames_spec.unread_of (y.octets ++ (next.more ++ later)) g in
+      let gives = next.gives later may in
+      ap (advancing.course_at one x f) (append_assoc so.more next.more later) ∙ so.same (next.more ++ later) (may_come b c y z next.more later next.reads may)
+      ∙ course_settled other.most (noting.notes_of other) (noting.notes_of settled) there settles
+      ∙ ap (λ (n : ℕ). course_spec.course_left n (noting.notes_of settled) there) (sym most)
+      ∙ course_given settled.most (noting.notes_of settled) there (frames_spec.unread_of (z.octets ++ later) h) z.octets later frame gives.0 gives.1 refl stands
+      ∙ ap (λ (those : Captures). course_spec.course_with (course_spec.frame_gives those settled.most z.octets (noting.notes_of settled) frame) (λ after. course_spec.course_left settled.most after (frames_spec.unread_of (z.octets ++ later) h))) (sym same);
+}
 
-pub fails_known : (initial : Option course_spec.Course) (new : Option course_spec.Course) (notes : NotesStruct) (summary : Summary) (left : Option (List ℕ)) (held : List ℕ) (rest : Option (List ℕ)) (before after : Frames) (frame : Frame)
-    (captures : Captures) (datagram : Option course_spec.DatagramValue) (fault : CaptureFault) → IfSome initial (λ course. advancing.course_known notes (left_spec.unread_known left before) ≡ Some course)
-    → left_spec.GivesFrame (left_spec.unread_known left before) (left_spec.unread_known (prepend_known held rest) after) (Some frame) → frames.StandsInFile (length held) frame → captures ≡ before.captures
-    → capture.IsFault (course_spec.frame_gives captures notes.most held (noting.notes_of notes) frame) fault → advancing.Advances initial new summary datagram (Err (ReadFault.Capture fault))
-fails_known None new notes summary left held rest before after frame captures datagram fault known gives stands same faulty = tt
-fails_known (Some course) new notes summary left held rest before after frame captures datagram fault known gives stands same faulty =
-    let goes = goes_on course notes left held rest before after frame captures known gives stands same in
-    fault_ends course (course_spec.frame_gives captures notes.most held (noting.notes_of notes) frame) (λ next. course_spec.course_left notes.most next (frames.unread_of (held ++ goes.0) after)) fault goes.2 faulty
-
--- a frame gives no datagram
-pub none_known : (initial : Option course_spec.Course) (old new : NotesStruct) (left : Option (List ℕ)) (held : List ℕ) (rest : Option (List ℕ)) (before after : Frames) (frame : Frame)
-    (captures : Captures) → IfSome initial (λ course. advancing.course_known old (left_spec.unread_known left before) ≡ Some course)
-    → left_spec.GivesFrame (left_spec.unread_known left before) (left_spec.unread_known (prepend_known held rest) after) (Some frame) → frames.StandsInFile (length held) frame → captures ≡ before.captures
-    → new.most ≡ old.most → course_spec.frame_gives captures old.most held (noting.notes_of old) frame ≡ Ok (record { datagram = None; notes = noting.notes_of new })
-    → IfSome initial (λ course. advancing.course_known new (left_spec.unread_known (prepend_known held rest) after) ≡ Some course)
-none_known None old new left held rest before after frame captures known gives stands same most noted = tt
-none_known (Some course) old new left held rest before after frame captures known gives stands same most noted =
-    let goes = goes_on course old left held rest before after frame captures known gives stands same in
-    let next = frames.unread_of (held ++ goes.0) after in
-    let is : course ≡ course_spec.course_left old.most (noting.notes_of new) next = goes.2 ∙ ap (λ (g : Result course_spec.Given CaptureFault). course_spec.course_with g (λ notes. course_spec.course_left old.most notes next)) noted in
-    ap (λ (l : Option (List ℕ)). advancing.course_known new (left_spec.unread_known (prepend_known held l) after)) goes.1
-    ∙ ap (λ (n : ℕ). Some (course_spec.course_left n (noting.notes_of new) next)) most ∙ ap Some (sym is)
-
--- a frame gives a datagram
-pub found_known : (initial : Option course_spec.Course) (old new : NotesStruct) (left : Option (List ℕ)) (held : List ℕ) (rest : Option (List ℕ)) (before after : Frames) (frame : Frame)
-    (captures : Captures) (datagram : course_spec.DatagramValue) → IfSome initial (λ course. advancing.course_known old (left_spec.unread_known left before) ≡ Some course)
-    → left_spec.GivesFrame (left_spec.unread_known left before) (left_spec.unread_known (prepend_known held rest) after) (Some frame) → frames.StandsInFile (length held) frame → captures ≡ before.captures
-    → new.most ≡ old.most → course_spec.frame_gives captures old.most held (noting.notes_of old) frame ≡ Ok (record { datagram = Some datagram; notes = noting.notes_of new })
-    → advancing.Advances initial (advancing.course_known new (left_spec.unread_known (prepend_known held rest) after)) (course_spec.summary_of (noting.notes_of new)) (Some datagram) (Ok true)
-found_known None old new left held rest before after frame captures datagram known gives stands same most noted = tt
-found_known (Some course) old new left held rest before after frame captures datagram known gives stands same most noted =
-    let goes = goes_on course old left held rest before after frame captures known gives stands same in
-    let next = frames.unread_of (held ++ goes.0) after in
-    let is : course ≡ course_spec.course_with (Ok (record { datagram = Some datagram; notes = noting.notes_of new })) (λ notes. course_spec.course_left old.most notes next) =
-    goes.2 ∙ ap (λ (g : Result course_spec.Given CaptureFault). course_spec.course_with g (λ notes. course_spec.course_left old.most notes next)) noted in
-    let now : advancing.course_known new (left_spec.unread_known (prepend_known held rest) after) ≡ Some (course_spec.course_left old.most (noting.notes_of new) next) =
-    ap (λ (l : Option (List ℕ)). advancing.course_known new (left_spec.unread_known (prepend_known held l) after)) goes.1 ∙ ap (λ (n : ℕ). Some (course_spec.course_left n (noting.notes_of new) next)) most in
-    subst (λ (known : Option course_spec.Course). advancing.Advances (Some course) known (course_spec.summary_of (noting.notes_of new)) (Some datagram) (Ok true)) (sym now) is
+-- what is told with what the frame gave
+with_given : (a b : Option (List ℕ)) (one notes : NotesStruct) (x z : held_spec.HeldValue) (f h : Frames) (captures : Captures) (frame : Frame) (given : Result course_spec.Given CaptureFault) (gave : Gave a b one x f captures notes frame z h)
+    → course_spec.frame_gives captures notes.most z.octets (noting.notes_of notes) frame ≡ given → (later : List ℕ) → held_spec.MayCome z later
+    → advancing.course_at one x f (gave.more ++ later) ≡ course_spec.course_with given (λ next. course_spec.course_left notes.most next (frames_spec.unread_of (z.octets ++ later) h))
+with_given a b one notes x z f h captures frame given gave is later may =
+    gave.goes later may ∙ ap (λ (g : Result course_spec.Given CaptureFault). course_spec.course_with g (λ next. course_spec.course_left notes.most next (frames_spec.unread_of (z.octets ++ later) h))) is
 
 pub none_found : (found : Option Found) → is_some found ≡ false → found ≡ None
 none_found None is = refl
 none_found (Some found) is = absurd cc
 
--- what was found, if something was
-pub found_at : (initial : Option course_spec.Course) (old new : NotesStruct) (left : Option (List ℕ)) (held : List ℕ) (rest : Option (List ℕ)) (before after : Frames) (frame : Frame)
-    (captures : Captures) (found : Option Found) → IfSome initial (λ course. advancing.course_known old (left_spec.unread_known left before) ≡ Some course)
-    → left_spec.GivesFrame (left_spec.unread_known left before) (left_spec.unread_known (prepend_known held rest) after) (Some frame) → frames.StandsInFile (length held) frame → captures ≡ before.captures
-    → new.most ≡ old.most → course_spec.frame_gives captures old.most held (noting.notes_of old) frame ≡ Ok (record { datagram = option_map (noting.datagram_at held new.packet.items) found; notes = noting.notes_of new })
-    → is_some found ≡ true → advancing.Advances initial (advancing.course_known new (left_spec.unread_known (prepend_known held rest) after)) (course_spec.summary_of (noting.notes_of new)) (advancing.found_datagram held new found) (Ok true)
-found_at initial old new left held rest before after frame captures None known gives stands same most noted is = absurd cc
-found_at initial old new left held rest before after frame captures (Some found) known gives stands same most noted is =
-    found_known initial old new left held rest before after frame captures (noting.datagram_at held new.packet.items found) known gives stands same most noted
+-- it gave no datagram
+pub gave_none : (a b : Option (List ℕ)) (one notes new : NotesStruct) (x z : held_spec.HeldValue) (f h : Frames) (captures : Captures) (frame : Frame) (found : Option Found) → Gave a b one x f captures notes frame z h
+    → new.most ≡ notes.most → course_spec.frame_gives captures notes.most z.octets (noting.notes_of notes) frame ≡ Ok (record { datagram = option_map (noting.datagram_at z.octets new.packet.items) found; notes = noting.notes_of new })
+    → is_some found ≡ false → GoesOn a b one x f new z h
+gave_none a b one notes new x z f h captures frame (Some found) gave most noted is = absurd cc
+gave_none a b one notes new x z f h captures frame None gave most noted is = record {
+  more = gave.more;
+  reads = gave.reads;
+  same = λ later may.
+      with_given a b one notes x z f h captures frame (Ok (record { datagram = None; notes = noting.notes_of new })) gave noted later may
+      ∙ ap (λ (n : ℕ). course_spec.course_left n (noting.notes_of new) (frames_spec.unread_of (z.octets ++ later) h)) (sym most);
+}
 
-pub none_at : (initial : Option course_spec.Course) (old new : NotesStruct) (left : Option (List ℕ)) (held : List ℕ) (rest : Option (List ℕ)) (before after : Frames) (frame : Frame)
-    (captures : Captures) (found : Option Found) → IfSome initial (λ course. advancing.course_known old (left_spec.unread_known left before) ≡ Some course)
-    → left_spec.GivesFrame (left_spec.unread_known left before) (left_spec.unread_known (prepend_known held rest) after) (Some frame) → frames.StandsInFile (length held) frame → captures ≡ before.captures
-    → new.most ≡ old.most → course_spec.frame_gives captures old.most held (noting.notes_of old) frame ≡ Ok (record { datagram = option_map (noting.datagram_at held new.packet.items) found; notes = noting.notes_of new })
-    → is_some found ≡ false → IfSome initial (λ course. advancing.course_known new (left_spec.unread_known (prepend_known held rest) after) ≡ Some course)
-none_at initial old new left held rest before after frame captures None known gives stands same most noted is =
-    none_known initial old new left held rest before after frame captures known gives stands same most noted
-none_at initial old new left held rest before after frame captures (Some found) known gives stands same most noted is = absurd cc
+-- it gave one
+pub gave_one : (a b : Option (List ℕ)) (one notes new : NotesStruct) (x z : held_spec.HeldValue) (f h : Frames) (captures : Captures) (frame : Frame) (found : Option Found) (gave : Gave a b one x f captures notes frame z h)
+    → new.most ≡ notes.most → course_spec.frame_gives captures notes.most z.octets (noting.notes_of notes) frame ≡ Ok (record { datagram = option_map (noting.datagram_at z.octets new.packet.items) found; notes = noting.notes_of new })
+    → is_some found ≡ true → (later : List ℕ) → held_spec.MayCome z later
+    → advancing.Tells (Ok true) (advancing.course_at one x f (gave.more ++ later)) (advancing.course_at new z h later) (course_spec.summary_of (noting.notes_of new)) (noting.found_datagram z.octets new found)
+gave_one a b one notes new x z f h captures frame None gave most noted is later may = absurd cc
+gave_one a b one notes new x z f h captures frame (Some found) gave most noted is later may =
+    let datagram = noting.datagram_at z.octets new.packet.items found in
+    with_given a b one notes x z f h captures frame (Ok (record { datagram = Some datagram; notes = noting.notes_of new })) gave noted later may
+    ∙ ap (λ (n : ℕ). course_spec.course_with (Ok (record { datagram = Some datagram; notes = noting.notes_of new })) (λ next. course_spec.course_left n next (frames_spec.unread_of (z.octets ++ later) h))) (sym most)
 
--- a header was read, and nothing is noted yet
-pub opens_known : (input : Option (List ℕ)) (captures : Captures) (most : ℕ) (notes : NotesStruct) (known : Option frames.Unread) → noting.notes_of notes ≡ course_spec.no_notes → notes.most ≡ most
-    → IfSome input (λ file. left_spec.OpensAs (frames.opened captures file) known) → IfSome input (λ file. advancing.course_known notes known ≡ Some (course_spec.course_of captures most file))
-unfolding course_spec.course_of
-opens_known None captures most notes known none same opens = tt
-opens_known (Some file) captures most notes known none same opens = by (frames.opened captures file) opens
+-- it gave a fault
+abbrev pub Faults : (unread left : Option (List ℕ)) → NotesStruct → held_spec.HeldValue → Frames → NotesStruct → held_spec.HeldValue → Frames → CaptureFault → Type 0
+Faults unread left one old before other new after fault =
+    (more : List ℕ) × held_spec.Reads unread left old new more
+    × ((later : List ℕ) → held_spec.MayCome new later → advancing.course_at one old before (more ++ later) ≡ record { datagrams = []; end = Err fault })
+
+pub gave_fault : (a b : Option (List ℕ)) (one notes new : NotesStruct) (x z : held_spec.HeldValue) (f h : Frames) (captures : Captures) (frame : Frame) (fault : CaptureFault) (Told : CaptureFault → Type 0) → Gave a b one x f captures notes frame z h
+    → capture.IsFault (course_spec.frame_gives captures notes.most z.octets (noting.notes_of notes) frame) fault → ((is : CaptureFault) → Faults a b one x f new z h is → Told is)
+    → advancing.IfTold (Err (ReadFault.Capture fault)) (Told fault)
+gave_fault a b one notes new x z f h captures frame fault Told gave faulty told = by fault faulty
   where
-    by : (found : Option frames.Unread) → left_spec.OpensAs found known → advancing.course_known notes known ≡ Some (course_spec.course_opened most found)
-    by None opened = absurd opened
-    by (Some unread) is = ap (advancing.course_known notes) is ∙ ap₂ (λ (n : ℕ) (with_notes : course_spec.Notes). Some (course_spec.course_left n with_notes unread)) same none
+    faults : (is : CaptureFault) → course_spec.frame_gives captures notes.most z.octets (noting.notes_of notes) frame ≡ Err is → Told is
+    faults is same = told is (gave.more, gave.reads, λ later may. with_given a b one notes x z f h captures frame (Err is) gave same later may)
 
-pub not_opened_known : (input : Option (List ℕ)) (captures : Captures) (most : ℕ) → IfSome input (λ file. frames.opened captures file ≡ None)
-    → IfSome input (λ file. advancing.IsEnd (course_spec.course_of captures most file) (ReadFault.Capture CaptureFault.BadCapture))
-unfolding course_spec.course_of
-not_opened_known None captures most none = tt
-not_opened_known (Some file) captures most none = ap (course_spec.course_opened most) none
+    by : (is : CaptureFault) → capture.IsFault (course_spec.frame_gives captures notes.most z.octets (noting.notes_of notes) frame) is → advancing.IfTold (Err (ReadFault.Capture is)) (Told is)
+    by CaptureFault.BadCapture same = faults CaptureFault.BadCapture same
+    by (CaptureFault.Damaged number) same = faults (CaptureFault.Damaged number) same
+    by (CaptureFault.CutCapture number) same = faults (CaptureFault.CutCapture number) same
+    by CaptureFault.TooMany same = faults CaptureFault.TooMany same
+    by CaptureFault.Memory same = tt
+
+-- no frame is left behind them
+pub none_left : (a b c : Option (List ℕ)) (one other : NotesStruct) (x y z : held_spec.HeldValue) (f g h : Frames) (so : GoesOn a b one x f other y g) (next : left_spec.GivesNext b c y z g h None)
+    → (later : List ℕ) → held_spec.MayCome z later
+    → advancing.course_at one x f ((so.more ++ next.more) ++ later) ≡ record { datagrams = []; end = Ok (course_spec.summary_of (noting.notes_of other)) }
+none_left a b c one other x y z f g h so next later may =
+    ap (advancing.course_at one x f) (append_assoc so.more next.more later) ∙ so.same (next.more ++ later) (may_come b c y z next.more later next.reads may)
+    ∙ course_ends other.most (noting.notes_of other) (frames_spec.unread_of (y.octets ++ (next.more ++ later)) g) (next.gives later may).0

@@ -1,7 +1,6 @@
 -- The course of a capture, step by step: it goes by what is left of the octets.
 use Rattle.std.proofs.Common.{◌≡◌, ℕ, zero, suc, ◌+◌, ◌-◌, ◌<◌, ◌≤◌, Bool, true, false, List, [], ◌++◌, length, drop, take, refl, sym, ap, ap₂, ◌∙◌, arith}
 use Rattle.std.specs.Prelude.{None, Option, Some, Result, Ok, Err, nat_le, nat_lt, if◌then◌else◌, slice_range}
-use Rattle.std.specs.Io.KnownBytes.{prepend_known}
 use Rattle.std.proofs.lemmas.Bool.Decides.{nat_tests}
 use Rattle.std.proofs.lemmas.List.{drop-drop, drop_all, length-drop}
 use Rattle.rtps_capture.specs.Blocks as blocks
@@ -15,7 +14,6 @@ use Rattle.rtps_capture.specs.declared.blocks.Interface.{Interface}
 use Rattle.rtps_capture.specs.declared.capture.CaptureFault.{CaptureFault}
 use Rattle.rtps_capture.specs.declared.captures.Captures.{Captures}
 use Rattle.rtps_capture.specs.declared.frames.Frame.{Frame}
-use Rattle.rtps_capture.specs.declared.frames.Frames.{Frames}
 use Rattle.rtps_capture.specs.declared.frames.Records.{Records}
 use Rattle.rtps_capture.specs.declared.layout.record.TheConstants as frame_header
 use Rattle.rtps_capture.proofs.BlockLemmas.{block_moves, frame_moves, interfaces_move, moved_block}
@@ -222,7 +220,7 @@ ended captures most octets others notes Frame.Damaged one other is = refl
 ended captures most octets others notes Frame.CutFrame one other is = absurd cc
 
 -- A step over all that is left was taken, and its frame stands in what is held: so the course goes on.
-course_given : (most : ℕ) (notes : course.Notes) (old new : frames.Unread) (held more : List ℕ) (frame : Frame) → old.at + 1 ≤ length old.octets → left_spec.IsStep (frames.step_of (left_spec.behind_passed old)) frame new
+pub course_given : (most : ℕ) (notes : course.Notes) (old new : frames.Unread) (held more : List ℕ) (frame : Frame) → old.at + 1 ≤ length old.octets → left_spec.IsStep (frames.step_of (left_spec.behind_passed old)) frame new
     → new.octets ≡ held ++ more → frames.StandsInFile (length held) frame
     → course.course_left most notes old ≡ course.course_with (course.frame_gives old.captures most held notes frame) (λ next. course.course_left most next new)
 course_given most notes old new held more frame left step octets stands =
@@ -247,14 +245,6 @@ course_given most notes old new held more frame left step octets stands =
         ∙ ap (λ (given : Result course.Given CaptureFault). course.course_with given (λ next. course.course_left most next (frames.step_of front).next)) (frame_within old.captures most held more notes frame stands)
         ∙ ap (λ (u : frames.Unread). course.course_with (course.frame_gives old.captures most held notes frame) (λ next. course.course_left most next u)) (sym same)
 
--- The course is known, and a frame was given: what is left is known, and the course goes on with what the frame gives.
-pub course_goes_on : (most : ℕ) (notes : course.Notes) (left held : List ℕ) (rest : Option (List ℕ)) (old new : Frames) (frame : Frame)
-    → left_spec.GivesFrame (Some (frames.unread_of left old)) (left_spec.unread_known (prepend_known held rest) new) (Some frame) → frames.StandsInFile (length held) frame
-    → (more : List ℕ) × (rest ≡ Some more)
-    × (course.course_left most notes (frames.unread_of left old) ≡ course.course_with (course.frame_gives old.captures most held notes frame) (λ next. course.course_left most next (frames.unread_of (held ++ more) new)))
-course_goes_on most notes left held None old new frame gives stands = absurd gives
-course_goes_on most notes left held (Some more) old new frame gives stands =
-    (more, refl, course_given most notes (frames.unread_of left old) (frames.unread_of (held ++ more) new) held more frame gives.0 gives.1 refl stands)
-
+-- no frame is left
 pub course_ends : (most : ℕ) (notes : course.Notes) (unread : frames.Unread) → length unread.octets ≤ unread.at → course.course_left most notes unread ≡ record { datagrams = []; end = Ok (course.summary_of notes) }
 course_ends most notes unread past = course_done most notes unread past

@@ -1,12 +1,12 @@
 -- The frames of a capture by what is left of its octets: what is held in front decides what comes next, and places are counted from it.
-use Rattle.std.proofs.Common.{◌≡◌, ℕ, ◌+◌, ◌-◌, ◌<◌, ◌≤◌, Bool, true, false, List, [], ◌++◌, length, drop, refl, sym, ap, ap₂, subst, ◌∙◌, append-nil, inl, inr, arith}
+use Rattle.std.proofs.Common.{◌≡◌, ℕ, ◌+◌, ◌-◌, ◌<◌, ◌≤◌, Bool, true, false, List, [], ◌++◌, length, drop, refl, sym, ap, ap₂, subst, ◌∙◌, append_assoc, append-nil, inl, inr, arith}
 use Rattle.std.specs.Prelude.{None, Option, Some, Result, Ok, Err, IfOk, ◌⊎◌, ◌==◌, nat_le, nat_lt, if◌then◌else◌, IfSome, option_and_then, option_map}
-use Rattle.std.specs.Io.KnownBytes.{IsAtEnd, Keeps, prepend_known}
 use Rattle.std.proofs.lemmas.Bool.Decides.{nat_tests}
 use Rattle.std.proofs.lemmas.List.{drop-append-le, length-append, length-drop}
 use Rattle.rtps_ids.specs.declared.order.Order.{Order}
 use Rattle.rtps_capture.specs.Blocks as blocks
 use Rattle.rtps_capture.specs.Frames as frames_spec
+use Rattle.rtps_capture.specs.Held as held_spec
 use Rattle.rtps_capture.specs.Left as left_spec
 use Rattle.rtps_capture.specs.LinkTypes as link_types
 use Rattle.rtps_capture.specs.OctetNumbers as octet_numbers
@@ -167,13 +167,11 @@ needed_some unread = by unread.records
         let size = octet_numbers.four_at unread.order unread.octets (unread.at + frame_header.CAPTURED) in some (nat_le (frames_spec.frame_from unread) (length unread.octets)) (frames_spec.is_damaged unread.captures size) size
 
 -- a step over what is held is one over all that is left
-pub frame_given : (old passed new : Frames) (held next : List ℕ) (rest more : Option (List ℕ)) (frame : Frame) → old.at ≤ length held
-    → passed ≡ record old { at = 0 } → Keeps (prepend_known (drop old.at held) rest) (prepend_known next more)
-    → (passed.at + left_spec.needed (frames_spec.unread_of next passed) ≤ length next) ⊎ IsAtEnd more → passed.at < length next → frames_spec.TakesStep (frames_spec.step_of (frames_spec.unread_of next passed)) frame (frames_spec.unread_of next new)
-    → left_spec.GivesFrame (left_spec.unread_known (prepend_known held rest) old) (left_spec.unread_known (prepend_known next more) new) (Some frame)
-frame_given old passed new held next None more frame within is kept enough some taken = tt
-frame_given old passed new held next (Some rest) None frame within is kept enough some taken = absurd kept
-frame_given old passed new held next (Some rest) (Some more) frame within is kept enough some taken =
+pub frame_given : (old passed new : Frames) (held next rest more : List ℕ) (frame : Frame) → old.at ≤ length held
+    → passed ≡ record old { at = 0 } → next ++ more ≡ drop old.at held ++ rest
+    → (passed.at + left_spec.needed (frames_spec.unread_of next passed) ≤ length next) ⊎ (more ≡ []) → passed.at < length next → frames_spec.TakesStep (frames_spec.step_of (frames_spec.unread_of next passed)) frame (frames_spec.unread_of next new)
+    → left_spec.GivesFrame (frames_spec.unread_of (held ++ rest) old) (frames_spec.unread_of (next ++ more) new) (Some frame)
+frame_given old passed new held next rest more frame within is kept enough some taken =
     let front : drop old.at (held ++ rest) ≡ next ++ more = drop-append-le old.at held rest within ∙ sym kept in
     let size : length (held ++ rest) - old.at ≡ length next + length more = sym (length-drop old.at (held ++ rest)) ∙ ap (λ (l : List ℕ). length l) front ∙ length-append next more in
     let decides = held_decides (frames_spec.unread_of next passed) more enough some in
@@ -185,13 +183,11 @@ frame_given old passed new held next (Some rest) (Some more) frame within is kep
       ),
     )
 
-pub none_given : (old passed : Frames) (held next : List ℕ) (rest more : Option (List ℕ)) → old.at ≤ length held → passed ≡ record old { at = 0 }
-    → Keeps (prepend_known (drop old.at held) rest) (prepend_known next more) → (passed.at + left_spec.needed (frames_spec.unread_of next passed) ≤ length next) ⊎ IsAtEnd more
-    → length next ≤ passed.at → left_spec.GivesFrame (left_spec.unread_known (prepend_known held rest) old) (left_spec.unread_known (prepend_known next more) passed) None
-none_given old passed held next None more within is kept enough none = tt
-none_given old passed held next (Some rest) None within is kept enough none = absurd kept
-none_given old passed held next (Some rest) (Some more) within is kept (inl enough) none = absurd (omega (arith, enough, none, needed_some (frames_spec.unread_of next passed)))
-none_given old passed held next (Some rest) (Some more) within is kept (inr ended) none =
+pub none_given : (old passed : Frames) (held next rest more : List ℕ) → old.at ≤ length held → passed ≡ record old { at = 0 }
+    → next ++ more ≡ drop old.at held ++ rest → (passed.at + left_spec.needed (frames_spec.unread_of next passed) ≤ length next) ⊎ (more ≡ [])
+    → length next ≤ passed.at → left_spec.GivesFrame (frames_spec.unread_of (held ++ rest) old) (frames_spec.unread_of (next ++ more) passed) None
+none_given old passed held next rest more within is kept (inl enough) none = absurd (omega (arith, enough, none, needed_some (frames_spec.unread_of next passed)))
+none_given old passed held next rest more within is kept (inr ended) none =
     let front : drop old.at (held ++ rest) ≡ next ++ more = drop-append-le old.at held rest within ∙ sym kept in
     let size : length (held ++ rest) - old.at ≡ length next + length more = sym (length-drop old.at (held ++ rest)) ∙ ap (λ (l : List ℕ). length l) front ∙ length-append next more in
     let at : passed.at ≡ 0 = ap (λ (f : Frames). f.at) is in
@@ -281,18 +277,61 @@ opened_decided captures octets more enough = by (nat_lt (length octets) 4) refl
     by true is = let few : opening.opening_needed captures octets ≡ 4 = rw is refl in absurd (grind (arith, nat_tests, few, enough))
     by false is = four (grind (arith, nat_tests))
 
--- so what a step over what is held gives is what comes next
-pub step_given : (old passed new : Frames) (held next : List ℕ) (rest more : Option (List ℕ)) (result : Result (Option Frame) ReadFault) → old.at ≤ length held
-    → passed ≡ record old { at = 0 } → Keeps (prepend_known (drop old.at held) rest) (prepend_known next more)
-    → (passed.at + left_spec.needed (frames_spec.unread_of next passed) ≤ length next) ⊎ IsAtEnd more → IfOk result (λ given. given ≡ None → (length next ≤ passed.at) × (new ≡ passed))
-    → IfOk result (λ given. IfSome given (λ frame. (passed.at < length next) × frames_spec.TakesStep (frames_spec.step_of (frames_spec.unread_of next passed)) frame (frames_spec.unread_of next new)))
-    → IfOk result (left_spec.GivesFrame (left_spec.unread_known (prepend_known held rest) old) (left_spec.unread_known (prepend_known next more) new))
-step_given old passed new held next rest more (Err fault) within is kept enough none some = tt
-step_given old passed new held next rest more (Ok None) within is kept enough none some =
-    subst (λ (f : Frames). left_spec.GivesFrame (left_spec.unread_known (prepend_known held rest) old) (left_spec.unread_known (prepend_known next more) f) None) (sym (none refl).1)
-    (none_given old passed held next rest more within is kept enough (none refl).0)
-step_given old passed new held next rest more (Ok (Some frame)) within is kept enough none some =
-    frame_given old passed new held next rest more frame within is kept enough some.0 some.1
+-- So what a step over what is held gives is what comes next: what is held was passed up to the place that was reached, and then filled.
+pub step_given : (unread left : Option (List ℕ)) (old held next : held_spec.HeldValue) (before passed after : Frames) (result : Result (Option Frame) ReadFault) → before.at ≤ length old.octets
+    → held ≡ record old { octets = drop before.at old.octets } → passed ≡ record before { at = 0 } → held_spec.Fills unread left held next
+    → (passed.at + left_spec.needed (frames_spec.unread_of next.octets passed) ≤ length next.octets) ⊎ (next.ended ≡ true)
+    → IfOk result (λ given. given ≡ None → (length next.octets ≤ passed.at) × (after ≡ passed))
+    → IfOk result (λ given. IfSome given (λ frame. (passed.at < length next.octets) × frames_spec.TakesStep (frames_spec.step_of (frames_spec.unread_of next.octets passed)) frame (frames_spec.unread_of next.octets after)))
+    → IfOk result (left_spec.GivesNext unread left old next before after)
+step_given unread left old held next before passed after result within is_held is fills enough none some = by result none some
+  where
+    more : List ℕ
+    more = fills.more
+
+    reads : held_spec.Reads unread left old next more
+    reads =
+        let count : held.read ≡ old.read = ap (λ (h : held_spec.HeldValue). h.read) is_held in
+        let same : held.ended ≡ old.ended = ap (λ (h : held_spec.HeldValue). h.ended) is_held in
+        record {
+          taken = fills.reads.taken;
+          counted = fills.reads.counted ∙ ap (λ (n : ℕ). n + length more) count;
+          closed = λ ended. fills.reads.closed (same ∙ ended);
+          at_end = λ was. fills.reads.at_end (λ ended. was (sym same ∙ ended));
+        }
+
+    kept : (later : List ℕ) → next.octets ++ later ≡ drop before.at old.octets ++ (more ++ later)
+    kept later =
+        ap (λ (l : List ℕ). l ++ later) (fills.octets ∙ ap (λ (h : held_spec.HeldValue). h.octets ++ more) is_held) ∙ append_assoc (drop before.at old.octets) more later
+
+    chosen_by : (later : List ℕ) → held_spec.MayCome next later → (passed.at + left_spec.needed (frames_spec.unread_of next.octets passed) ≤ length next.octets) ⊎ (next.ended ≡ true)
+        → (passed.at + left_spec.needed (frames_spec.unread_of next.octets passed) ≤ length next.octets) ⊎ (later ≡ [])
+    chosen_by later may (inl fits) = inl fits
+    chosen_by later may (inr ended) = inr (may ended)
+
+    by : (result : Result (Option Frame) ReadFault) → IfOk result (λ given. given ≡ None → (length next.octets ≤ passed.at) × (after ≡ passed))
+        → IfOk result (λ given. IfSome given (λ frame. (passed.at < length next.octets) × frames_spec.TakesStep (frames_spec.step_of (frames_spec.unread_of next.octets passed)) frame (frames_spec.unread_of next.octets after)))
+        → IfOk result (left_spec.GivesNext unread left old next before after)
+    by (Err fault) none some = tt
+    by (Ok None) none some = record {
+      more = more;
+      reads = reads;
+      gives = λ later may. subst (λ (f : Frames). left_spec.GivesFrame (frames_spec.unread_of (old.octets ++ (more ++ later)) before) (frames_spec.unread_of (next.octets ++ later) f) None) (sym (none refl).1)
+          (none_given before passed old.octets next.octets (more ++ later) later within is (kept later) (chosen_by later may enough) (none refl).0);
+    }
+    by (Ok (Some frame)) none some = record {
+      more = more;
+      reads = reads;
+      gives = λ later may. frame_given before passed after old.octets next.octets (more ++ later) later frame within is (kept later) (chosen_by later may enough) some.0 some.1;
+    }
+
+-- where nothing comes next, the input ended
+pub none_ended : (next : held_spec.HeldValue) (passed after : Frames) (result : Result (Option Frame) ReadFault)
+    → (passed.at + left_spec.needed (frames_spec.unread_of next.octets passed) ≤ length next.octets) ⊎ (next.ended ≡ true)
+    → IfOk result (λ given. given ≡ None → (length next.octets ≤ passed.at) × (after ≡ passed)) → IfOk result (λ given. given ≡ None → next.ended ≡ true)
+none_ended next passed after (Err fault) enough none = tt
+none_ended next passed after (Ok given) (inl fits) none = λ is. let past = (none is).0 in absurd (omega (arith, fits, past, needed_some (frames_spec.unread_of next.octets passed)))
+none_ended next passed after (Ok given) (inr ended) none = λ is. ended
 
 -- what is held of a file decides what it begins with
 opened_all : (captures : Captures) (held more : List ℕ) → (opening.opening_needed captures held ≤ length held) ⊎ (more ≡ [])
@@ -306,20 +345,19 @@ opened_all captures held more (inr none) =
     same None is = refl
     same (Some unread) is = ap Some (ap (λ (l : List ℕ). record unread { octets = l }) (sym (append-nil unread.octets)))
 
-pub opened_known : (captures : Captures) (held : List ℕ) (input rest : Option (List ℕ)) (frames : Frames) → Keeps (prepend_known [] input) (prepend_known held rest)
-    → (opening.opening_needed captures held ≤ length held) ⊎ IsAtEnd rest → frames_spec.opened captures held ≡ Some (frames_spec.unread_of held frames)
-    → IfSome input (λ file. left_spec.OpensAs (frames_spec.opened captures file) (left_spec.unread_known (prepend_known held rest) frames))
-opened_known captures held None rest frames kept enough is = tt
-opened_known captures held (Some all) None frames kept enough is = absurd kept
-opened_known captures held (Some all) (Some more) frames kept enough is =
-    let found : frames_spec.opened captures all ≡ Some (frames_spec.unread_of (held ++ more) frames) =
-    ap (frames_spec.opened captures) (sym kept) ∙ opened_all captures held more enough ∙ ap (option_map (λ (unread : frames_spec.Unread). with_more unread more)) is in
-    subst (λ (found : Option frames_spec.Unread). left_spec.OpensAs found (Some (frames_spec.unread_of (held ++ more) frames))) (sym found) refl
+chosen_so : (captures : Captures) (held : held_spec.HeldValue) (later : List ℕ) → (opening.opening_needed captures held.octets ≤ length held.octets) ⊎ (held.ended ≡ true) → held_spec.MayCome held later
+    → (opening.opening_needed captures held.octets ≤ length held.octets) ⊎ (later ≡ [])
+chosen_so captures held later (inl enough) may = inl enough
+chosen_so captures held later (inr ended) may = inr (may ended)
 
-pub unopened_known : (captures : Captures) (held : List ℕ) (input rest : Option (List ℕ)) → Keeps (prepend_known [] input) (prepend_known held rest)
-    → (opening.opening_needed captures held ≤ length held) ⊎ IsAtEnd rest → frames_spec.opened captures held ≡ None
-    → IfSome input (λ file. frames_spec.opened captures file ≡ None)
-unopened_known captures held None rest kept enough is = tt
-unopened_known captures held (Some all) None kept enough is = absurd kept
-unopened_known captures held (Some all) (Some more) kept enough is =
-    ap (frames_spec.opened captures) (sym kept) ∙ opened_all captures held more enough ∙ ap (option_map (λ (unread : frames_spec.Unread). with_more unread more)) is
+-- with whatever comes later, a file begins so
+pub opened_so : (captures : Captures) (held : held_spec.HeldValue) (frames : Frames) (later : List ℕ) → (opening.opening_needed captures held.octets ≤ length held.octets) ⊎ (held.ended ≡ true)
+    → held_spec.MayCome held later → frames_spec.opened captures held.octets ≡ Some (frames_spec.unread_of held.octets frames)
+    → frames_spec.opened captures (held.octets ++ later) ≡ Some (frames_spec.unread_of (held.octets ++ later) frames)
+opened_so captures held frames later enough may is =
+    opened_all captures held.octets later (chosen_so captures held later enough may) ∙ ap (option_map (λ (unread : frames_spec.Unread). with_more unread later)) is
+
+pub unopened_so : (captures : Captures) (held : held_spec.HeldValue) (later : List ℕ) → (opening.opening_needed captures held.octets ≤ length held.octets) ⊎ (held.ended ≡ true)
+    → held_spec.MayCome held later → frames_spec.opened captures held.octets ≡ None → frames_spec.opened captures (held.octets ++ later) ≡ None
+unopened_so captures held later enough may is =
+    opened_all captures held.octets later (chosen_so captures held later enough may) ∙ ap (option_map (λ (unread : frames_spec.Unread). with_more unread later)) is

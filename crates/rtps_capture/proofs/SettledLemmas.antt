@@ -1,15 +1,13 @@
 -- The course of a capture does not depend on where the octets of fragments are kept.
 use Rattle.std.proofs.Common.{◌≡◌, ℕ, ◌+◌, ◌-◌, ◌≤◌, Bool, true, false, List, [], ◌∷◌, ◌++◌, length, drop, take, refl, sym, ap, ap₂, subst, ◌∙◌, inl, inr, arith}
-use Rattle.std.specs.Prelude.{None, Option, Some, Result, Ok, Err, IfSome, ◌==◌, nat_lt, if◌then◌else◌, option_map, option_to_list, slice_range}
+use Rattle.std.specs.Prelude.{None, Option, Some, Result, Ok, Err, ◌==◌, nat_lt, if◌then◌else◌, option_to_list, slice_range}
 use Rattle.std.specs.Option.{option_or}
 use Rattle.std.specs.Ordering.{is_eq}
 use Rattle.std.proofs.lemmas.List.{drop-append-le, drop_at, length-append, length-drop, take-append-le}
-use Rattle.rtps_capture.specs.Advancing as advancing
 use Rattle.rtps_capture.specs.Alike as alike
 use Rattle.rtps_capture.specs.Assembly as assembly
 use Rattle.rtps_capture.specs.Course as course_spec
 use Rattle.rtps_capture.specs.Frames as frames
-use Rattle.rtps_capture.specs.Noting as noting
 use Rattle.rtps_capture.specs.Packets as packets
 use Rattle.rtps_capture.specs.Pieces as pieces
 use Rattle.rtps_capture.specs.Recent as recent
@@ -27,7 +25,6 @@ use Rattle.rtps_capture.specs.declared.fragment.FragmentHosts.{FragmentHosts}
 use Rattle.rtps_capture.specs.declared.fragment.FragmentKey.{FragmentKey}
 use Rattle.rtps_capture.specs.declared.frames.CapturedFrame.{CapturedFrame}
 use Rattle.rtps_capture.specs.declared.frames.Frame.{Frame}
-use Rattle.rtps_capture.specs.declared.notes.Notes.{Notes as NotesStruct}
 use Rattle.rtps_capture.specs.declared.packet.Contents.{Contents}
 use Rattle.rtps_capture.specs.declared.pieces.Piece.{Piece}
 use Rattle.rtps_capture.proofs.AlikeLemmas.{AreJoined, keyed_grown, making_alike, recent_alike, taken_alike}
@@ -274,15 +271,7 @@ frames_settled captures most octets one other (frame ∷ frames) same =
     by (Err a) (Ok b) gives more = absurd gives
     by (Err a) (Err b) gives more = ap (λ (f : CaptureFault). let whole : course_spec.Course = record { datagrams = []; end = Err f } in whole) gives
 
-course_settled : (most : ℕ) (one other : course_spec.Notes) (unread : frames.Unread) → alike.Settles one other → course_spec.course_left most one unread ≡ course_spec.course_left most other unread
+pub course_settled : (most : ℕ) (one other : course_spec.Notes) (unread : frames.Unread) → alike.Settles one other → course_spec.course_left most one unread ≡ course_spec.course_left most other unread
 unfolding course_spec.course_left
 course_settled most one other unread (inl same) = ap (λ (notes : course_spec.Notes). course_spec.course_of_frames unread.captures most unread.octets notes (frames.frames_left unread)) (sym same)
 course_settled most one other unread (inr same) = frames_settled unread.captures most unread.octets one other (frames.frames_left unread) same
-
--- so what is known of it stays known
-pub settled_known : (initial : Option course_spec.Course) (old new : NotesStruct) (unread : Option frames.Unread) → alike.Settles (noting.notes_of old) (noting.notes_of new) → new.most ≡ old.most
-    → IfSome initial (λ course. advancing.course_known old unread ≡ Some course) → IfSome initial (λ course. advancing.course_known new unread ≡ Some course)
-settled_known None old new unread settles most known = tt
-settled_known (Some course) old new None settles most known = absurd cc
-settled_known (Some course) old new (Some unread) settles most known =
-    ap (λ (n : ℕ). Some (course_spec.course_left n (noting.notes_of new) unread)) most ∙ ap Some (sym (course_settled old.most (noting.notes_of old) (noting.notes_of new) unread settles)) ∙ known

@@ -1,9 +1,10 @@
 -- The frames of a capture by what is left of its octets: a capture that comes by blocks is read so, since what is passed is held no more.
 -- PCAP Capture File Format (IETF draft), 5 "Packet Record"; PCAP Now Generic Capture File Format (IETF draft), 3 "General File Structure".
 -- own: where a capture is cut into blocks changes nothing of what it says.
-use Rattle.std.specs.Prelude.{ℕ, ◌+◌, ◌≡◌, ◌≤◌, nat_le, Bool, true, false, if◌then◌else◌, List, ◌++◌, length, drop, Option, Some, None, option_map}
+use Rattle.std.specs.Prelude.{ℕ, ◌+◌, ◌≡◌, ◌≤◌, nat_le, Bool, true, false, if◌then◌else◌, List, ◌++◌, length, drop, Option, Some, None}
 use Rattle.rtps_capture.specs.Blocks as blocks
 use Rattle.rtps_capture.specs.Frames as frames_spec
+use Rattle.rtps_capture.specs.Held as held_spec
 use Rattle.rtps_capture.specs.OctetNumbers as octet_numbers
 use Rattle.rtps_capture.specs.Packets as packets
 use Rattle.rtps_capture.specs.declared.capture.CaptureFault.{CaptureFault}
@@ -58,23 +59,19 @@ IsDecided unread more =
 abbrev pub IsStep : frames_spec.Step → Frame → frames_spec.Unread → Type 0
 IsStep step frame unread = (frame ≡ step.gives) × (ends_reading frame ≡ false → unread ≡ step.next)
 
--- What was next was given, where the octets are known that are left before and behind it.
-abbrev pub GivesFrame : Option frames_spec.Unread → Option frames_spec.Unread → Option Frame → Type 0
-GivesFrame None new given = Unit {0}
-GivesFrame (Some old) None given = ⊥
-GivesFrame (Some old) (Some new) None = (length old.octets ≤ old.at) × (length new.octets ≤ new.at)
-GivesFrame (Some old) (Some new) (Some frame) = (old.at + 1 ≤ length old.octets) × IsStep (frames_spec.step_of (behind_passed old)) frame new
+-- what was next was given, by the octets that are left before and behind it
+abbrev pub GivesFrame : frames_spec.Unread → frames_spec.Unread → Option Frame → Type 0
+GivesFrame old new None = (length old.octets ≤ old.at) × (length new.octets ≤ new.at)
+GivesFrame old new (Some frame) = (old.at + 1 ≤ length old.octets) × IsStep (frames_spec.step_of (behind_passed old)) frame new
+
+-- what was next was given for which these octets were read, whatever may come behind them
+pub record GivesNext (unread left : Option (List ℕ)) (old new : held_spec.HeldValue) (before after : Frames) (given : Option Frame) : Type 0 where
+  pub more : List ℕ
+  pub reads : held_spec.Reads unread left old new more
+  pub gives : (later : List ℕ) → held_spec.MayCome new later
+      → GivesFrame (frames_spec.unread_of (old.octets ++ (more ++ later)) before) (frames_spec.unread_of (new.octets ++ later) after) given
 
 -- a fault that says nothing of the capture: a read of the input failed, or memory was refused
 abbrev pub IsOpenFault : ReadFault → Type 0
 IsOpenFault ReadFault.Input = Unit {0}
 IsOpenFault (ReadFault.Capture fault) = fault ≡ CaptureFault.Memory
-
--- what is unread of a capture whose octets that are left are known
-abbrev pub unread_known : Option (List ℕ) → Frames → Option frames_spec.Unread
-unread_known left frames = option_map (λ octets. frames_spec.unread_of octets frames) left
-
--- a file is opened, and this is unread of it, which is known
-abbrev pub OpensAs : Option frames_spec.Unread → Option frames_spec.Unread → Type 0
-OpensAs None known = ⊥
-OpensAs (Some unread) known = known ≡ Some unread

@@ -8,6 +8,7 @@ pub mod Checksum
 pub mod Course
 pub mod Forgetting
 pub mod Frames
+pub mod Held
 pub mod Layout
 pub mod Left
 pub mod LinkTypes

@@ -34,6 +34,10 @@ given_at frame packet time number place = record { octets = place_octets frame p
 abbrev pub datagram_at : List ℕ → List ℕ → Found → course.DatagramValue
 datagram_at octets packet found = given_at (slice_range octets found.range.from found.range.to) packet found.time found.frame found.place
 
+-- the datagram that was found last, with what is held of the capture
+abbrev pub found_datagram : List ℕ → NotesStruct → Option Found → Option course.DatagramValue
+found_datagram held notes found = option_map (datagram_at held notes.packet.items) found
+
 -- the range of a place
 abbrev pub place_range : Place → ByteRange
 place_range (Place.Frame range) = range

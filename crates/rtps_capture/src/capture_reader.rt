@@ -1,17 +1,10 @@
-ghost use Rattle.std.specs.Prelude.{◌≡◌, ◌≤◌, ◌^◌, IfErr, IfOk, IfSome, MatchOption, None, Some};
-ghost use Rattle.std.specs.Io.KnownBytes.{prepend_known};
-ghost use Rattle.rtps_capture.specs.Advancing as advancing;
+ghost use Rattle.std.specs.Prelude.{◌≡◌, ◌≤◌, ◌^◌, MatchOption, None, Some};
 ghost use Rattle.rtps_capture.specs.Course as course;
-ghost use Rattle.rtps_capture.specs.Left as left;
 ghost use Rattle.rtps_capture.specs.Noting as noting;
 
-use crate::capture::CaptureFault;
 use crate::captures::Captures;
 use crate::frame_reader::FrameReader;
 use crate::notes::{Found, Notes, Place};
-use crate::read_fault::ReadFault;
-use std::alloc::Global;
-use std::io::Read;
 
 /// What is wanted of a capture that is read by blocks.
 #[derive(Clone, Copy)]
@@ -54,60 +47,23 @@ pub struct Summary {
     pub first_link: Option<u32>,
 }
 
-/// A capture that is read by blocks, datagram by datagram. It holds no more of it than a block and a record, and the
-/// octets of all fragments of packets.
+/// A capture that is read by blocks, datagram by datagram. It holds no more of it than a block and a record, and the octets of the
+/// fragments of packets that are remembered, and as many of others.
 #[derive(Drop)]
-pub struct CaptureReader<R> {
-    frames: FrameReader<R>,
-    notes: Notes,
+pub struct CaptureReader {
+    pub(crate) frames: FrameReader,
+    pub(crate) notes: Notes,
     // The datagram that came last.
-    found: Option<Found>,
+    pub(crate) found: Option<Found>,
     ghost counted: { noting.AreCounted notes },
     ghost few: { (notes.counts.frames ≤ frames.place) × (notes.counts.frames ≤ 2 ^ 62) },
-    ghost stands: { noting.FoundStands frames.held notes.packet.items found },
+    ghost stands: { noting.FoundStands frames.held.octets notes.packet.items found },
 }
 
-impl<R: Read + Drop> CaptureReader<R> {
-    /// Reads the header of a capture, and leaves its datagrams to be read.
-    pub fn open(alloc: Global, wanted: Wanted, input: R) -> Result<CaptureReader<R>, ReadFault>
-        ensures opened { IfOk result (λ reader. IfSome (R.remaining input) (λ file.
-            advancing.course_known reader.notes (left.unread_known (prepend_known reader.frames.held (R.remaining reader.frames.input)) reader.frames.frames)
-            ≡ Some (course.course_of wanted.captures wanted.most file))) }
-        ensures fault { IfErr result (λ fault. IfSome (R.remaining input) (λ file. advancing.IsEnd (course.course_of wanted.captures wanted.most file) fault)) }
-    {
-        match FrameReader::open(alloc, wanted.captures, wanted.block, input)? {
-            Some(frames) => Ok(CaptureReader {
-                frames,
-                notes: Notes::new(alloc, wanted.most),
-                found: None,
-            }),
-            None => Err(ReadFault::Capture(CaptureFault::BadCapture)),
-        }
-    }
-
-    /// Reads on to the next datagram, and answers whether there is one. After the last one there is none. An `Err` is the first fault of the
-    /// capture in its order, or a read failed, or memory was refused: nothing is promised then of what is left.
-    pub fn advance(&mut self) -> Result<bool, ReadFault>
-        ensures { advancing.Advances
-            (advancing.course_known self.old.notes (left.unread_known (prepend_known self.old.frames.held (R.remaining self.old.frames.input)) self.old.frames.frames))
-            (advancing.course_known self.new.notes (left.unread_known (prepend_known self.new.frames.held (R.remaining self.new.frames.input)) self.new.frames.frames))
-            (course.summary_of (noting.notes_of self.new.notes)) (advancing.found_datagram self.new.frames.held self.new.notes self.new.found) result }
-    {
-        self.found = None;
-        'frames: while let Some(frame) = self.frames.next_frame()? {
-            self.notes.settle()?;
-            let captures = self.frames.captures();
-            self.found = self.notes.note(captures, self.frames.octets(), frame)?;
-            if self.found.is_some() {
-                return Ok(true);
-            }
-        }
-        Ok(false)
-    }
-
+impl CaptureReader {
     /// The datagram that came last, until the reader advances.
     pub fn datagram(&self) -> Option<Datagram<'_>>
-        ensures { MatchOption result (self.now.found ≡ None) (λ datagram. advancing.found_datagram self.now.frames.held self.now.notes self.now.found
+        ensures { MatchOption result (self.now.found ≡ None) (λ datagram. noting.found_datagram self.now.frames.held.octets self.now.notes self.now.found
             ≡ Some (record { octets = datagram.octets.now; time = datagram.time; frame = datagram.frame })) }
     {
         let found = self.found?;
@@ -130,5 +86,19 @@ impl<R: Read + Drop> CaptureReader<R> {
         ensures { result ≡ course.summary_of (noting.notes_of self.now.notes) }
     {
         self.notes.summary()
+    }
+
+    /// How many octets of the input were read.
+    pub fn read(&self) -> u64
+        ensures { result ≡ self.now.frames.held.read }
+    {
+        self.frames.held.read()
+    }
+
+    /// Whether the input ended. Nothing is read behind its end.
+    pub fn has_ended(&self) -> bool
+        ensures { result ≡ self.now.frames.held.ended }
+    {
+        self.frames.held.has_ended()
     }
 }

@@ -1,8 +1,11 @@
-ghost use Rattle.std.specs.Prelude.{◌≡◌, ◌≤◌, ◌<◌, ◌+◌, ◌^◌, [], drop, take, length, false, nat_le, IfOk, IfErr, OnOk};
-ghost use Rattle.std.specs.Io.KnownBytes.{Consumes, IsAtEnd, Keeps, prepend_known};
+ghost use Rattle.std.specs.Prelude.{◌≡◌, ◌≤◌, ◌<◌, ◌+◌, ◌^◌, drop, take, length, true, false, nat_le, IfOk, IfErr, OnOk};
+ghost use Rattle.std.specs.Io.KnownBytes.{Consumes, IsAtEnd};
+ghost use Rattle.rtps_capture.specs.Held as held_spec;
 ghost use Rattle.rtps_capture.specs.Left as left;
 
+use crate::capture::CaptureFault;
 use crate::read_fault::ReadFault;
+use rtps_ids::Memory;
 use std::alloc::Global;
 use std::io::Read;
 use std::marker::Model;
@@ -10,80 +13,115 @@ use std::marker::Model;
 /// The most octets that a read asks for.
 const BLOCK_MOST: usize = 1 << 30;
 
+/// The most octets of an input that are counted.
+const READ_MOST: u64 = 1 << 62;
+
 /// What is held of an input that is read by blocks: octets that were read and are not passed yet.
 #[derive(Drop)]
 pub(crate) struct Held {
     octets: Vec<u8>,
     // How many of these are passed.
     passed: usize,
+    // How many were read in all.
+    read: u64,
     // How many octets a read asks for.
     block: usize,
+    // The input ended: nothing is read behind its end.
+    ended: bool,
 }
 
 impl Model for Held {
-    ghost use Rattle.std.specs.Prelude.{◌≤◌, ◌<◌, ◌^◌, ℕ, List, drop, length};
+    ghost use Rattle.std.specs.Prelude.{◌≤◌, ◌<◌, ◌^◌, drop, length};
+    ghost use Rattle.rtps_capture.specs.Held as held_spec;
 
-    ghost Value = { List ℕ };
+    ghost Value = { held_spec.HeldValue };
 
-    ghost view = { λ held. drop held.passed held.octets.items };
+    ghost view = { λ held. record { octets = drop held.passed held.octets.items; read = held.read; ended = held.ended } };
 
     ghost invariant = { λ held. (held.passed ≤ length held.octets.items) × (0 < held.block) × (held.block ≤ 2 ^ 30) };
 }
 
 impl Held {
-    /// Nothing is held yet. A read will ask for so many octets, but for one at least.
-    pub(crate) fn new(alloc: Global, block: usize) -> Held
-        ensures { result ≡ [] }
+    /// These octets are held, which begin an input. A read will ask for so many, but for one at least.
+    pub(crate) fn new(alloc: Global, block: usize, begun: &[u8]) -> Result<Held, Memory>
+        ensures { IfOk result (λ held. held ≡ record { octets = begun.now; read = length begun.now; ended = false }) }
     {
-        Held {
-            octets: Vec::new(alloc),
+        let mut octets = Vec::new(alloc);
+        octets.extend_from_slice(begun)?;
+        Ok(Held {
+            octets,
             passed: 0,
+            read: begun.len() as u64,
             block: block.clamp(1, BLOCK_MOST),
-        }
+            ended: false,
+        })
     }
 
     #[inline]
     pub(crate) fn octets(&self) -> &[u8]
-        ensures { result.now ≡ self.now }
+        ensures { result.now ≡ self.now.octets }
     {
         &self.octets[self.passed..]
+    }
+
+    /// How many octets were read.
+    pub(crate) fn read(&self) -> u64
+        ensures { result ≡ self.now.read }
+    {
+        self.read
+    }
+
+    /// Whether the input ended.
+    pub(crate) fn has_ended(&self) -> bool
+        ensures { result ≡ self.now.ended }
+    {
+        self.ended
     }
 
     /// Passes so many octets.
     #[inline]
     pub(crate) fn pass(&mut self, count: usize)
-        requires { count ≤ length self.old }
-        ensures { self.new ≡ drop count self.old }
+        requires { count ≤ length self.old.octets }
+        ensures { self.new ≡ record self.old { octets = drop count self.old.octets } }
     {
         self.passed += count;
     }
 
     /// Reads on until so many octets are held, or the input ends. Answers whether they are.
     pub(crate) fn fill<R: Read>(&mut self, input: &mut R, wanted: usize) -> Result<bool, ReadFault>
-        ensures left { OnOk result (Keeps (prepend_known self.old (R.remaining input.old)) (prepend_known self.new (R.remaining input.new))) }
-        ensures kept { length self.old ≤ length self.new }
-        ensures enough { IfOk result (λ enough. enough ≡ nat_le wanted (length self.new)) }
-        ensures end { IfOk result (λ enough. enough ≡ false → IsAtEnd (R.remaining input.new)) }
+        ensures fills { OnOk result (held_spec.Fills (R.remaining input.old) (R.remaining input.new) self.old self.new) }
+        ensures kept { length self.old.octets ≤ length self.new.octets }
+        ensures enough { IfOk result (λ enough. enough ≡ nat_le wanted (length self.new.octets)) }
+        ensures end { IfOk result (λ enough. enough ≡ false → self.new.ended ≡ true) }
         ensures open { IfErr result left.IsOpenFault }
     {
         'reads: while self.octets.len() - self.passed < wanted {
-            if self.read_block(input)? == 0 {
+            if !self.read_block(input)? {
                 return Ok(false);
             }
         }
         Ok(true)
     }
 
-    /// Reads what comes next behind these, and answers how many octets came.
-    fn read_block<R: Read>(&mut self, input: &mut R) -> Result<usize, ReadFault>
-        ensures left { OnOk result (Keeps (prepend_known self.old (R.remaining input.old)) (prepend_known self.new (R.remaining input.new))) }
-        ensures kept { length self.old ≤ length self.new }
-        ensures grown { IfOk result (λ got. length self.new ≡ length self.old + got) }
-        ensures end { IfOk result (λ got. got ≡ 0 → IsAtEnd (R.remaining input.new)) }
+    /// Reads what comes next behind these, unless the input ended, and answers whether octets came.
+    fn read_block<R: Read>(&mut self, input: &mut R) -> Result<bool, ReadFault>
+        ensures fills { OnOk result (held_spec.Fills (R.remaining input.old) (R.remaining input.new) self.old self.new) }
+        ensures kept { length self.old.octets ≤ length self.new.octets }
+        ensures grown { IfOk result (λ came. came ≡ true → length self.old.octets < length self.new.octets) }
+        ensures end { IfOk result (λ came. came ≡ false → (self.new.octets ≡ self.old.octets) × (self.new.ended ≡ true)) }
         ensures open { IfErr result left.IsOpenFault }
     {
+        if self.ended {
+            return Ok(false);
+        }
+        if self.read >= READ_MOST {
+            return Err(ReadFault::Capture(CaptureFault::Memory));
+        }
         self.settle();
-        read_behind(input, &mut self.octets, self.block)
+        let got = read_behind(input, &mut self.octets, self.block)?;
+        self.read += got as u64;
+        self.ended = got == 0;
+        Ok(got > 0)
     }
 
     /// Leaves out the octets that are passed.
@@ -96,7 +134,6 @@ impl Held {
         self.passed = 0;
     }
 }
-
 /// Reads what comes next behind these octets, as many as `block` at most, and answers how many came.
 fn read_behind<R: Read>(
     input: &mut R,

@@ -2,6 +2,7 @@
 //! Where any capture is read, packets that came in fragments are put together, and their datagrams are told, too.
 #![tactic(auto)]
 
+mod advance;
 mod assembly;
 mod blocks;
 mod byte_range;
@@ -27,6 +28,7 @@ mod pieces;
 mod read_fault;
 mod times;
 
+pub use advance::Opened;
 pub use blocks::is_pcapng;
 pub use byte_range::ByteRange;
 pub use capture::{CaptureFault, CaptureReading, read_capture};
