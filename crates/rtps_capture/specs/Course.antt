@@ -170,6 +170,10 @@ summary_of notes = record {
   first_link = notes.counts.first_link;
 }
 
+-- all frames that are ignored
+abbrev pub ignored_of : Summary → ℕ
+ignored_of summary = summary.pieces + summary.cut + summary.other + summary.links
+
 -- the datagrams, and what is told of the frames behind the last one, or the fault behind them
 pub record Course : Type 0 where
   pub datagrams : List DatagramValue

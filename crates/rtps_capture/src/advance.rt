@@ -1,4 +1,4 @@
-ghost use Rattle.std.specs.Prelude.{◌≡◌, IfErr, IfOk};
+ghost use Rattle.std.specs.Prelude.{◌≡◌, ◌<◌, ◌^◌, true, IfErr, IfOk};
 ghost use Rattle.rtps_capture.specs.Advancing as advancing;
 ghost use Rattle.rtps_capture.specs.Left as left;
 
@@ -58,7 +58,8 @@ impl CaptureReader {
     /// Reads on to the next datagram of the same input, and answers whether there is one. After the last one there is none. An `Err` is the
     /// first fault of the capture in its order, or a read failed, or memory was refused: nothing is promised then of what is left.
     pub fn advance<R: Read>(&mut self, input: &mut R) -> Result<bool, ReadFault>
-        ensures { advancing.IfTold result (advancing.Advances (R.remaining input.old) (R.remaining input.new) self.old self.new result) }
+        ensures goes { advancing.IfTold result (advancing.Advances (R.remaining input.old) (R.remaining input.new) self.old self.new result) }
+        ensures onward { IfOk result (λ found. found ≡ true → (self.old.frames.place < 2 ^ 62) × (self.old.frames.place < self.new.frames.place)) }
     {
         self.found = None;
         'frames: while let Some(frame) = self.frames.next_frame(input)? {

@@ -1,4 +1,4 @@
-ghost use Rattle.std.specs.Prelude.{◌≡◌, ◌≤◌, ◌^◌, MatchOption, None, Some};
+ghost use Rattle.std.specs.Prelude.{◌≡◌, ◌≤◌, ◌<◌, ◌^◌, MatchOption, None, Some};
 ghost use Rattle.rtps_capture.specs.Course as course;
 ghost use Rattle.rtps_capture.specs.Noting as noting;
 
@@ -83,7 +83,8 @@ impl CaptureReader {
 
     /// What is told of the frames that were read.
     pub fn summary(&self) -> Summary
-        ensures { result ≡ course.summary_of (noting.notes_of self.now.notes) }
+        ensures told { result ≡ course.summary_of (noting.notes_of self.now.notes) }
+        ensures few { course.ignored_of result < 2 ^ 64 }
     {
         self.notes.summary()
     }

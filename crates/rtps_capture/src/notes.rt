@@ -112,7 +112,8 @@ impl Notes {
     pub(crate) fn summary(&self) -> Summary
         requires counted { noting.AreCounted self.now }
         requires few { self.now.counts.frames < 2 ^ 63 }
-        ensures { result ≡ course.summary_of (noting.notes_of self.now) }
+        ensures told { result ≡ course.summary_of (noting.notes_of self.now) }
+        ensures few { course.ignored_of result < 2 ^ 64 }
     {
         let counts = self.counts;
         Summary {

@@ -1,4 +1,4 @@
-use Rattle.std.proofs.Common.{None, Ok, ◌≡◌, ◌++◌, ◌∙◌, List, ℕ, Option, length, refl, subst, sym}
+use Rattle.std.proofs.Common.{None, Ok, ◌≡◌, ◌++◌, ◌∙◌, List, ℕ, Option, length, refl, subst, sym, arith}
 use Rattle.std.specs.Prelude.{IfSome, option_map}
 use Rattle.std.proofs.lemmas.Result.{err_from_is_err_and}
 use Rattle.rtps_capture.specs.Capture as capture
@@ -14,10 +14,10 @@ use Rattle.rtps_capture.proofs.advance.CaptureReader.advance.Goals as goal
 pub frames-init : goal.frames-init
 frames-init g c =
     let start = c.args.self.now in
-    (goes_nowhere (g.R.Read.remaining c.args.input.now) start.notes start.frames.held start.frames.frames, refl)
+    (goes_nowhere (g.R.Read.remaining c.args.input.now) start.notes start.frames.held start.frames.frames, refl, omega arith)
 
-pub returns : goal.returns
-returns g c =
+pub returns-clause-goes : goal.returns-clause-goes
+returns-clause-goes g c =
     let start = c.args.self.now in
     let old = c.frames.self in
     let new = c.next_frame.new.self in
@@ -33,8 +33,8 @@ returns g c =
       done = λ is. c.in_ok-frame.ensures.end c.in_default.is;
     }
 
-pub returns-in_err-self : goal.returns-in_err-self
-returns-in_err-self g c =
+pub returns-in_err-self-clause-goes : goal.returns-in_err-self-clause-goes
+returns-in_err-self-clause-goes g c =
     let p = err_from_is_err_and c.from_residual-in_err-self.result c.from_residual-in_err-self.ensures.1 in
     let start = c.args.self.now in
     let old = c.frames.self in
@@ -56,8 +56,8 @@ returns-in_err-self g c =
     (subst (λ (l : List ℕ). capture.IsFault (course.frame_gives captures settled.most l (noting.notes_of settled) c.in-Some.frame) fault) c.octets.ensures c.in_err-self.ensures.noted)
     (λ faults. record { more = faults.0; reads = faults.1; tells = faults.2; done = λ is. absurd cc }))
 
-pub returns-then-is_some : goal.returns-then-is_some
-returns-then-is_some g c =
+pub returns-then-is_some-clause-goes : goal.returns-then-is_some-clause-goes
+returns-then-is_some-clause-goes g c =
     let start = c.args.self.now in
     let old = c.frames.self in
     let new = c.next_frame.new.self in
@@ -109,4 +109,5 @@ frames-preserved g c =
     let none = sym c.is_some.ensures ∙ c.if-is_some.false in (
       gave_none unread left start.notes settled notes start.frames.held new.held start.frames.frames new.frames captures c.in-Some.frame found gave c.note.ensures.most noted none,
       none_found found none,
+      omega (arith, c.frames.invariant.2, c.next_frame.ensures.same.1),
     )
