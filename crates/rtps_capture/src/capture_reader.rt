@@ -90,7 +90,7 @@ impl CaptureReader {
     }
 
     /// How many octets of the input were read.
-    pub fn read(&self) -> u64
+    pub fn octets_read(&self) -> u64
         ensures { result ≡ self.now.frames.held.read }
     {
         self.frames.held.read()

@@ -47,7 +47,7 @@ pub(crate) fn read_capture<R: Read>(
         block: PIECE,
     };
     match CaptureReader::open(alloc, wanted, begun, input)? {
-        Opened::Capture(reader) => collect(alloc, limits, captures, input, reader),
+        Opened::Capture(mut reader) => collect(alloc, limits, captures, input, &mut reader),
         Opened::Other { read, ended } => {
             let fault = CaptureFault::BadCapture;
             Err(fault_behind(alloc, limits, input, Stop { read, ended, fault }))
@@ -61,21 +61,21 @@ fn collect<R: Read>(
     limits: Limits,
     captures: Captures,
     input: &mut R,
-    mut reader: CaptureReader,
+    reader: &mut CaptureReader,
 ) -> Result<Recording, RunFault>
-    ensures { (before : Option (List ℕ)) → capture_blocks.CameSo limits captures before (R.remaining input.old) reader []
+    ensures { (before : Option (List ℕ)) → capture_blocks.CameSo limits captures before (R.remaining input.old) reader.old []
         → MatchResult result (runs.ReadsRecording limits captures before (R.remaining input.new)) (runs.FailsReading limits captures before (R.remaining input.new)) }
 {
     course_is_told();
     let mut collected = Collected::new(alloc);
-    match collect_all(limits, input, &mut reader, &mut collected) {
-        Ok(()) if reader.read() > limits.octets => Err(RunFault::Recording(RecFault::TooMany)),
+    match collect_all(limits, input, reader, &mut collected) {
+        Ok(()) if reader.octets_read() > limits.octets => Err(RunFault::Recording(RecFault::TooMany)),
         Ok(()) => Ok(collected.recording(alloc, captures, reader.summary())?),
         Err(ReadFault::Input) => Err(RunFault::Input),
         Err(ReadFault::Capture(CaptureFault::Memory)) => Err(RunFault::Memory),
         Err(ReadFault::Capture(fault)) => {
             let stop = Stop {
-                read: reader.read(),
+                read: reader.octets_read(),
                 ended: reader.has_ended(),
                 fault,
             };
@@ -95,7 +95,7 @@ fn collect_all<R: Read>(
         → capture_blocks.CameSo limits captures before (R.remaining input.old) reader.old datagrams → collected.old ≡ collected_spec.collected_of datagrams
         → capture_blocks.Collects limits captures before (R.remaining input.new) reader.new collected.new result }
 {
-    'datagrams: while reader.read() <= limits.octets {
+    'datagrams: while reader.octets_read() <= limits.octets {
         let found = reader.advance(input)?;
         if !found {
             return Ok(());
