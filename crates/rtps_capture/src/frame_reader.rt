@@ -93,7 +93,10 @@ impl FrameReader {
         'next: loop {
             let needed = self.frames.needed(self.held.octets());
             let wanted = needed.saturating_add(self.frames.at());
-            if self.held.octets().len() >= wanted || !self.held.fill(input, wanted)? {
+            if self.held.octets().len() >= wanted {
+                return Ok(());
+            }
+            if !self.held.fill(input, wanted)? {
                 return Ok(());
             }
         }

@@ -9,7 +9,7 @@ use Rattle.rtps_capture.specs.Noting as noting
 use Rattle.rtps_capture.specs.declared.frames.Frame.{Frame}
 use Rattle.rtps_capture.proofs.AdvanceLemmas.{frame_gave, gave_fault, gave_none, gave_one, goes_nowhere, none_found, none_left}
 use Rattle.rtps_capture.proofs.HeldLemmas.{reads_on}
-use Rattle.rtps_capture.proofs.advance.CaptureReader.advance.Goals as goal
+use Rattle.rtps_capture.proofs.capture_reader.CaptureReader.advance.Goals as goal
 
 pub frames-init : goal.frames-init
 frames-init g c =

@@ -1,6 +1,6 @@
 use Rattle.std.proofs.Common.{◌≡◌, ◌≤◌, ◌^◌, ◌-◌, None}
 use Rattle.rtps_capture.proofs.AdvanceLemmas.{GoesOn}
-use Rattle.rtps_capture.proofs.advance.CaptureReader.advance.Given as goal
+use Rattle.rtps_capture.proofs.capture_reader.CaptureReader.advance.Given as goal
 
 -- the frames so far gave no datagram
 abbrev pub invariant-frames : goal.invariant-frames
