@@ -13,9 +13,9 @@ returns-in-Some-clause-opened g c =
     let fills = c.in_ok-hold_opening.ensures.fills in (
       fills.more,
       begins unread left first held begun c.in_ok-held.ensures fills,
-      opens_so unread left first held begun c.args.wanted.captures c.args.wanted.most c.new-2.result c.in-Some.frames c.in_ok-held.ensures fills c.in_ok-hold_opening.ensures.enough
+      opens_so unread left first held begun c.args.wanted.captures c.args.wanted.most c.new-in-Some.result c.in-Some.frames c.in_ok-held.ensures fills c.in_ok-hold_opening.ensures.enough
           (subst (λ (l : List ℕ). frames_spec.opened c.args.wanted.captures l ≡ Some (frames_spec.unread_of l c.in-Some.frames)) c.octets.ensures c.in-Some.ensures.opened)
-          c.new-2.ensures.notes c.new-2.ensures.most,
+          c.new-in-Some.ensures.notes c.new-in-Some.ensures.most,
     )
 
 pub returns-in-None-clause-opened : goal.returns-in-None-clause-opened
