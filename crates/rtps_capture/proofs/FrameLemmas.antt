@@ -139,12 +139,6 @@ left-step unread left = by (length unread.octets - unread.at) refl
         rw more (ap (λ (frames : List Frame). (frames_spec.step_of unread).gives ∷ frames)
         (steps_within-enough n (length next.octets - next.at) next (omega (arith, leads.onward, same)) (omega arith)))
 
--- a step that was taken gave what is next
-pub gives_next : (old new : frames_spec.Unread) (frame : Frame) (step : frames_spec.Step) → frames_spec.step_of old ≡ step → old.at < length old.octets → frames_spec.TakesStep step frame new
-    → frames_spec.StandsInFile (length old.octets) frame → frames_spec.GivesNext old (Some frame) new
-gives_next old new frame step is left taken stands =
-    (left-step old left ∙ ap (λ (s : frames_spec.Step). s.gives ∷ frames_spec.frames_left s.next) is ∙ ap₂ (λ (f : Frame) (u : frames_spec.Unread). f ∷ frames_spec.frames_left u) (sym taken.0) (sym taken.1), stands)
-
 -- each takes an octet at least
 length-steps_within : (n : ℕ) (unread : frames_spec.Unread) → length (frames_spec.steps_within n unread) ≤ n
 unfolding frames_spec.steps_within

@@ -1,5 +1,4 @@
 pub mod AssemblyLemmas
-pub mod CaptureLemmas
 pub mod CarriedLemmas
 pub mod ComingLemmas
 pub mod FrameLemmas

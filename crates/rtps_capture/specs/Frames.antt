@@ -243,7 +243,3 @@ unread_of file frames = record {
   records = frames.records;
   interfaces = frames.interfaces.items;
 }
-
--- what is next was given, and what is behind it is left; a frame stands within the file
-abbrev pub GivesNext : Unread → Option Frame → Unread → Type 0
-GivesNext old result new = YieldsFirst frames_left old result new × IfSome result (StandsInFile (length old.octets))

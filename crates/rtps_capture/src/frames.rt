@@ -263,17 +263,6 @@ impl Frames {
         record::SIZE + size
     }
 
-    /// What the next record or block gives. None after the last one, and after one behind which nothing is read. After
-    /// `Memory` nothing is promised of what is unread.
-    pub(crate) fn next_frame(&mut self, octets: &[u8]) -> Result<Option<Frame>, Memory>
-        ensures { IfOk result (λ item. frames_spec.GivesNext (frames_spec.unread_of octets.now self.old) item (frames_spec.unread_of octets.now self.new)) }
-    {
-        if self.at >= octets.len() {
-            return Ok(None);
-        }
-        Ok(Some(self.step(octets)?))
-    }
-
     /// What the next record or block gives, which is there. After `Memory` nothing is promised of what is unread.
     #[tactic(auto, unfolding(crate::specs::Frames::step_of))]
     pub(crate) fn step(&mut self, octets: &[u8]) -> Result<Frame, Memory>

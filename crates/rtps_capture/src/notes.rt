@@ -12,7 +12,7 @@ use crate::capture_reader::Summary;
 use crate::captures::Captures;
 use crate::fragment::Fragment;
 use crate::frames::{CapturedFrame, Frame};
-use crate::packet::{Contents, contents_read, moved};
+use crate::packet::{Contents, contents_read};
 use crate::times::later;
 use rtps_ids::Memory;
 use std::alloc::Global;
