@@ -1,5 +1,5 @@
 -- Fragments that are kept in two places have the same octets, and so they are put together alike.
-use Rattle.std.proofs.Common.{◌≡◌, ℕ, ◌+◌, ◌≤◌, Bool, true, false, List, [], ◌∷◌, ◌++◌, length, drop, take, refl, sym, ap, ap₂, ◌∙◌, zero, suc, arith}
+use Rattle.std.proofs.Common.{◌≡◌, ℕ, ◌+◌, Bool, true, false, List, [], ◌∷◌, ◌++◌, drop, take, refl, sym, ap, ap₂, ◌∙◌, zero, suc, arith}
 use Rattle.std.specs.Prelude.{None, Option, Some, ◌==◌, ◌&&◌, ◌||◌, not, nat_lt, if◌then◌else◌, cond, count_by}
 use Rattle.std.proofs.lemmas.List.{drop-append-le, length-append, length-drop, take-append-le}
 use Rattle.std.proofs.lemmas.List.Sums.{sum_by_from}

@@ -1,6 +1,6 @@
 -- Fragments that are kept in two places. RFC 791 "Internet Protocol", 2.3 "Function Description".
 -- own: what is told of them does not depend on where their octets stand, so that these can be put elsewhere, and the others left out.
-use Rattle.std.specs.Prelude.{ℕ, ◌+◌, ◌≡◌, ◌≤◌, ◌++◌, ◌⊎◌, List, [], ◌∷◌, length, Option}
+use Rattle.std.specs.Prelude.{ℕ, ◌+◌, ◌≡◌, ◌≤◌, ◌++◌, ◌⊎◌, List, [], ◌∷◌, length}
 use Rattle.rtps_capture.specs.Course as course
 use Rattle.rtps_capture.specs.Pieces as pieces
 use Rattle.rtps_capture.specs.declared.assembly.KeyedMaking.{KeyedMaking}

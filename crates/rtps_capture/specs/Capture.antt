@@ -2,7 +2,7 @@
 -- own: a frame is ignored that gives no datagram, is no fragment of a packet that gives one, and is no repeat. Faults stand at their
 -- places in the file: the first one is told. A file that ends within a record or a block is no fault: a recorder that is stopped
 -- leaves such a file, and what was not recorded cannot be told from what was not sent. Of classic captures alone it is one.
-use Rattle.std.specs.Prelude.{ℕ, ◌+◌, ◌-◌, ◌*◌, ◌^◌, ◌≡◌, ◌≤◌, ◌==◌, nat_lt, if◌then◌else◌, List, [], ◌∷◌, ◌++◌, length, slice_range, All, Option, Some, None, option_map, option_to_list, Result, Ok, Err}
+use Rattle.std.specs.Prelude.{ℕ, ◌+◌, ◌-◌, ◌≡◌, ◌==◌, nat_lt, if◌then◌else◌, List, [], ◌∷◌, ◌++◌, length, slice_range, Option, Some, None, option_map, option_to_list, Result, Ok, Err}
 use Rattle.std.specs.Option.{option_or}
 use Rattle.std.specs.Ordering.{is_eq}
 use Rattle.rtps_capture.specs.Frames as frames_spec

@@ -1,6 +1,6 @@
 use Rattle.std.proofs.Common.{List, refl, subst, sym}
 use Rattle.rtps_capture.specs.declared.assembly.KeyedMaking.{KeyedMaking}
-use Rattle.rtps_capture.proofs.MovedLemmas.{KeysPutSo, all_keys_put, no_key_put, one_key_put}
+use Rattle.rtps_capture.proofs.MovedLemmas.{KeysPutSo, no_key_put, one_key_put}
 use Rattle.rtps_capture.proofs.assembly.RecentMakings.moved.Goals as goal
 
 pub keys-init : goal.keys-init

@@ -1,4 +1,4 @@
-use Rattle.std.proofs.Common.{None, Ok, ◌≡◌, ◌++◌, ◌∙◌, List, ℕ, Option, length, refl, subst, sym, arith}
+use Rattle.std.proofs.Common.{Ok, ◌≡◌, ◌++◌, ◌∙◌, List, ℕ, Option, length, refl, subst, sym, arith}
 use Rattle.std.specs.Prelude.{IfSome, option_map}
 use Rattle.std.proofs.lemmas.Result.{err_from_is_err_and}
 use Rattle.rtps_capture.specs.Capture as capture

@@ -1,7 +1,7 @@
 use Rattle.std.proofs.Common.{◌≡◌, ◌∙◌, ◌++◌, List, ℕ, ap, length, subst, sym, arith}
 use Rattle.rtps_capture.specs.Pieces as pieces
 use Rattle.rtps_capture.specs.declared.pieces.Piece.{Piece}
-use Rattle.rtps_capture.proofs.MovedLemmas.{PutSo, all_put, none_put, one_put_so, put_apart_so}
+use Rattle.rtps_capture.proofs.MovedLemmas.{PutSo, none_put, one_put_so, put_apart_so}
 use Rattle.rtps_capture.proofs.pieces.Pieces.moved.Goals as goal
 
 pub pieces-init : goal.pieces-init
