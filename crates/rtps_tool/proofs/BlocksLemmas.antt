@@ -10,12 +10,14 @@ use Rattle.rtps_capture.specs.Capture as capture
 use Rattle.rtps_capture.specs.Course as course
 use Rattle.rtps_capture.specs.Held as held
 use Rattle.rtps_capture.specs.Left as left_spec
+use Rattle.rtps_capture.specs.Noting as noting
 use Rattle.rtps_capture.specs.declared.advance.Opened.{Opened}
 use Rattle.rtps_capture.specs.declared.byte_range.ByteRange.{ByteRange}
 use Rattle.rtps_capture.specs.declared.capture.CaptureFault.{CaptureFault}
 use Rattle.rtps_capture.specs.declared.capture_reader.CaptureReader.{CaptureReader}
 use Rattle.rtps_capture.specs.declared.capture_reader.Summary.{Summary}
 use Rattle.rtps_capture.specs.declared.captures.Captures.{Captures}
+use Rattle.rtps_capture.specs.declared.notes.Found.{Found}
 use Rattle.rtps_capture.specs.declared.read_fault.ReadFault.{ReadFault}
 use Rattle.rtps_report.specs.Recording as recording
 use Rattle.rtps_tool.specs.CaptureBlocks as blocks
@@ -156,6 +158,12 @@ came_on limits captures a b c old new datagrams one so on last = record {
       ∙ ap (behind datagrams) told
       ∙ ap (λ (l : List course.DatagramValue). let whole : course.Course = record { datagrams = l; end = next.end } in whole) (sym (append_assoc datagrams (one ∷ []) next.datagrams));
 }
+
+-- where one was told, it came last
+pub none_told : (b c : Option (List ℕ)) (old new : CaptureReader) → advancing.Advances b c old new (Ok true) → new.found ≡ None → ⊥
+none_told b c old new on none =
+    subst (λ (found : Option Found). advancing.Tells (Ok true) (advancing.course_behind old (on.more ++ [])) (advancing.course_behind new []) (advancing.summary_of new) (noting.found_datagram new.frames.held.octets new.notes found)) none
+    (on.tells [] (λ is. refl))
 
 -- no more was told
 pub came_whole : (limits : Limits) (captures : Captures) (a b c : Option (List ℕ)) (old new : CaptureReader) (datagrams : List course.DatagramValue) → blocks.CameSo limits captures a b old datagrams

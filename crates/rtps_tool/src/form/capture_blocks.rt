@@ -69,7 +69,9 @@ fn collect<R: Read>(
     course_is_told();
     let mut collected = Collected::new(alloc);
     match collect_all(limits, input, reader, &mut collected) {
-        Ok(()) if reader.octets_read() > limits.octets => Err(RunFault::Recording(RecFault::TooMany)),
+        Ok(()) if reader.octets_read() > limits.octets => Err(RunFault::Recording(
+            RecFault::TooMany,
+        )),
         Ok(()) => Ok(collected.recording(alloc, captures, reader.summary())?),
         Err(ReadFault::Input) => Err(RunFault::Input),
         Err(ReadFault::Capture(CaptureFault::Memory)) => Err(RunFault::Memory),

@@ -5,9 +5,7 @@ ghost use Rattle.rtps_tool.specs.RecordingCapture as recording_capture;
 
 use rtps_capture::{Captures, Summary};
 use rtps_ids::Memory;
-use rtps_report::{
-    DatagramSpan, Links, Reasons, Recording, Times, make_room, push_octets,
-};
+use rtps_report::{DatagramSpan, Links, Reasons, Recording, Times, make_room, push_octets};
 use std::alloc::Global;
 use std::marker::Model;
 
@@ -89,18 +87,8 @@ impl Collected {
         };
         let ignored = summary.pieces + summary.cut + summary.other + summary.links;
         match captures {
-            Captures::Classic => Ok(Recording::of_capture(
-                self.octets,
-                self.spans,
-                times,
-                ignored,
-            )),
-            Captures::Any => Ok(Recording::of_any_capture(
-                self.octets,
-                self.spans,
-                times,
-                reasons,
-            )),
+            Captures::Classic => Ok(Recording::of_capture(self.octets, self.spans, times, ignored)),
+            Captures::Any => Ok(Recording::of_any_capture(self.octets, self.spans, times, reasons)),
         }
     }
 }
