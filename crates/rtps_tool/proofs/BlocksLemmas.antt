@@ -211,6 +211,20 @@ came_fault limits captures a b c old new datagrams collected (ReadFault.Capture 
     by CaptureFault.TooMany on = stop CaptureFault.TooMany on
     by CaptureFault.Memory on = tt
 
+-- a fault that says something of the capture
+pub stops_told : (limits : Limits) (captures : Captures) (before now : Option (List ℕ)) (reader : CaptureReader) (collected : collected_spec.CollectedValue) (fault : CaptureFault) (read : ℕ) (ended : Bool)
+    → blocks.is_memory fault ≡ false → read ≡ reader.frames.held.read → ended ≡ reader.frames.held.ended → blocks.Collects limits captures before now reader collected (Err (ReadFault.Capture fault))
+    → blocks.StopsAt limits captures before now (record { read = read; ended = ended; fault = fault })
+stops_told limits captures before now reader collected fault read ended other many last stops = rw (many, last) (by fault other stops)
+  where
+    by : (is : CaptureFault) → blocks.is_memory is ≡ false → blocks.Collects limits captures before now reader collected (Err (ReadFault.Capture is))
+        → blocks.StopsAt limits captures before now (record { read = reader.frames.held.read; ended = reader.frames.held.ended; fault = is })
+    by CaptureFault.BadCapture other stops = stops
+    by (CaptureFault.Damaged frame) other stops = stops
+    by (CaptureFault.CutCapture frame) other stops = stops
+    by CaptureFault.TooMany other stops = stops
+    by CaptureFault.Memory other stops = absurd cc
+
 -- ---- what a run tells of it
 
 pub whole_reads : agreement.CourseIsTold → (limits : Limits) (captures : Captures) (before now : Option (List ℕ)) (reader : CaptureReader) (datagrams : List course.DatagramValue) (recording : recording.RecordingValue)

@@ -1,5 +1,5 @@
 -- A capture of which a part was read. own: a recording may come in blocks, and stands for the same however it is cut into them.
-use Rattle.std.specs.Prelude.{ℕ, ◌+◌, ◌≡◌, ◌<◌, ◌≤◌, ◌⊎◌, Bool, true, List, [], ◌++◌, length, Option, Result, Ok, Err}
+use Rattle.std.specs.Prelude.{ℕ, ◌+◌, ◌≡◌, ◌<◌, ◌≤◌, ◌⊎◌, Bool, false, true, List, [], ◌++◌, length, Option, Result, Ok, Err}
 use Rattle.std.specs.Io.KnownBytes.{Consumes, IsAtEnd}
 use Rattle.rtps_capture.specs.Advancing as advancing
 use Rattle.rtps_capture.specs.Course as course
@@ -56,6 +56,11 @@ Collects limits captures before now reader collected (Err ReadFault.Input) = Uni
 Collects limits captures before now reader collected (Err (ReadFault.Capture CaptureFault.Memory)) = Unit {0}
 Collects limits captures before now reader collected (Err (ReadFault.Capture fault)) =
     StopsAt limits captures before now (record { read = reader.frames.held.read; ended = reader.frames.held.ended; fault = fault })
+
+-- memory was refused, which says nothing of the capture
+abbrev pub is_memory : CaptureFault → Bool
+is_memory CaptureFault.Memory = true
+is_memory other = false
 
 -- the rest of an input was read behind a fault, up to its end or past the most octets that it may have; so many there are in all
 pub record ReadsRest (most : ℕ) (old new : Option (List ℕ)) (stop : Stop) (total : ℕ) : Type 0 where

@@ -74,7 +74,7 @@ fn collect<R: Read>(
         )),
         Ok(()) => Ok(collected.recording(alloc, captures, reader.summary())?),
         Err(ReadFault::Input) => Err(RunFault::Input),
-        Err(ReadFault::Capture(CaptureFault::Memory)) => Err(RunFault::Memory),
+        Err(ReadFault::Capture(fault)) if is_memory(fault) => Err(RunFault::Memory),
         Err(ReadFault::Capture(fault)) => {
             let stop = Stop {
                 read: reader.octets_read(),
@@ -84,6 +84,13 @@ fn collect<R: Read>(
             Err(fault_behind(alloc, limits, input, stop))
         }
     }
+}
+
+/// Whether memory was refused, which says nothing of the capture.
+fn is_memory(fault: CaptureFault) -> bool
+    ensures { result ≡ capture_blocks.is_memory fault }
+{
+    matches!(fault, CaptureFault::Memory)
 }
 
 /// Collects the datagrams of a capture, to its end or past the most octets that it may have.
