@@ -57,64 +57,11 @@ class Sample:
 
 
 ALL_READERS = bytes(4)
-ALL = None, ALL_READERS
 
 
 def is_for(audience, listener):
     """what is for this audience comes to this listener, and to each within it"""
     return audience[0] in (None, listener[0]) and audience[1] in (ALL_READERS, listener[1])
-
-
-class Listeners:
-    """what came of one sample in one shape to each of its listeners"""
-
-    def __init__(self, shape):
-        self.shape, self.came = shape, []
-        self.each = {ALL: Sample(shape)}
-
-    def is_news(self, audience, piece):
-        """of none that it is for it is known that all had its fragments"""
-        return not any(is_for(listener, audience) and all(heard.first.get(number) == octets for number, octets in fragments_of(piece))
-                       for listener, heard in self.each.items())
-
-    def name(self, listener):
-        """one more, which heard what came before and was for it"""
-        if listener not in self.each:
-            self.each[listener] = Sample(self.shape)
-            for audience, piece in self.came:
-                if is_for(audience, listener):
-                    self.each[listener].add(piece)
-
-    def has_wider(self, listener, payload):
-        return any(other != listener and is_for(other, listener) and payload in heard.payloads()
-                   for other, heard in self.each.items() if heard.told())
-
-    def add(self, piece):
-        """takes a piece of this shape, and answers what it tells: each listener and a payload, one listener after another"""
-        audience = piece['dest'], piece['reader']
-        if not self.is_news(audience, piece):
-            return []
-        for reader in [one for dest, one in self.each if dest is None]:
-            self.name((audience[0], reader))
-        for dest in [one for one, reader in self.each if reader == ALL_READERS]:
-            self.name((dest, audience[1]))
-        self.came.append((audience, piece))
-        told = [(listener, payload) for listener, heard in self.each.items() if is_for(audience, listener) for payload in heard.add(piece)]
-        return [(listener, payload) for listener, payload in told if not self.has_wider(listener, payload)]
-
-
-def told_to_each(pieces):
-    """for each of these pieces, which one writer sent in this order: what it tells, each a listener and a payload"""
-    samples, told = {}, []
-    for piece in pieces:
-        shape = shape_of(piece)
-        told.append(samples.setdefault((piece['number'], shape), Listeners(shape)).add(piece))
-    return told
-
-
-def told_to_listeners(pieces):
-    """the payloads that each of these pieces tells, each to some listener"""
-    return [[payload for _, payload in told] for told in told_to_each(pieces)]
 
 
 def payloads_told(pieces):

@@ -22,7 +22,7 @@ import parts
 import reference
 import report as reports
 from asked import PLAIN, asked_by
-from fragments import by_writer, told_to_each
+from fragments import by_writer, is_for, payloads_told
 from random_recordings import some_asked, text_of_datagrams
 from random_systems import some_both, some_other, some_recorded
 from report import Report
@@ -42,15 +42,15 @@ def named(dest, reader):
     return [prefix + entity] if prefix or entity else []
 
 
-def entries_of(datagram, act, told):
-    """what an act of a writer says, each behind its place. A DATA_FRAG sends fragments from one on, so many, and the sample is complete for
-    those to whom it is told"""
+def entries_of(datagram, act, samples):
+    """what an act of a writer says, each behind its place. A DATA_FRAG sends fragments from one on, so many, and behind them it has an entry for each
+    sample that is complete by it; `samples` has whom these name"""
     place, to = [datagram, act['at']], named(act['dest'], act['reader'])
     if act['kind'] == 'data':
         return [place + ['data', act['number']] + to]
     if act['kind'] == 'data_frag':
         return [place + ['piece', act['number'], act['start'], act['count']] + to] + [
-            place + ['sample', act['number']] + named(*listener) for listener, _ in told]
+            place + ['sample', act['number']] + to for to in samples]
     if act['kind'] == 'heartbeat':
         gone = [place + ['gone', 1, act['first'] - 1] + to] if act['first'] > 1 else []
         return gone + [place + ['announced', act['last']] + to]
@@ -63,12 +63,33 @@ def octets_of(guid):
     return bytes.fromhex(guid.replace('.', ''))
 
 
+def samples_of(piece, everything, each):
+    """whom the samples of a piece name: `everything` are told to one who hears everything, and `each` has the readers of the writer's rows that hear
+    it, and how many are told to each. Where all are told as many, the samples name whom the piece names, and else these readers"""
+    if all(count == everything for _, count in each):
+        return [named(piece['dest'], piece['reader'])] * everything
+    return [named(reader[:12], reader[12:]) for reader, count in each for _ in range(count)]
+
+
+def samples_by_piece(pieces, readers):
+    """whom the samples name that each of these pieces tells the readers of the rows of a writer, which sent them in this order"""
+    each = {id(piece): [] for piece in pieces}
+    for reader in readers:
+        heard = [piece for piece in pieces if is_for((piece['dest'], piece['reader']), (reader[:12], reader[12:]))]
+        for piece, told in zip(heard, payloads_told(heard)):
+            each[id(piece)].append((reader, len(told)))
+    return {id(piece): samples_of(piece, len(told), each[id(piece)]) for piece, told in zip(pieces, payloads_told(pieces))}
+
+
 class Traffic:
     """what the writers of rows say, to whichever reader, and what the readers of rows answer, as entries"""
     def __init__(self, recording, rows):
         self.acts = {octets_of(row['writer']): [] for row in rows}
         self.bases = {(octets_of(row['writer']), octets_of(row['reader'])): [] for row in rows}
-        self.told = {id(piece): told for pieces in by_writer(recording).values() for piece, told in zip(pieces, told_to_each(pieces))}
+        self.samples = {}
+        for (source, entity), pieces in by_writer(recording).items():
+            readers = [reader for writer, reader in self.bases if writer == source + entity]
+            self.samples |= samples_by_piece(pieces, readers)
         for datagram, acts in enumerate(recording, 1):
             for act in acts:
                 self.take(datagram, act)
@@ -83,7 +104,7 @@ class Traffic:
             return
         writer = act['source'] + act['writer']
         if writer in self.acts and act['kind'] != 'nack_frag':
-            self.acts[writer] += entries_of(datagram, act, self.told.get(id(act), []))
+            self.acts[writer] += entries_of(datagram, act, self.samples.get(id(act), []))
 
     def bases_of(self, row):
         return self.bases[octets_of(row['writer']), octets_of(row['reader'])]

@@ -15,7 +15,7 @@ import subprocess
 import sys
 
 sys.dont_write_bytecode = True
-from fragments import payloads_told, told_to_listeners
+from fragments import payloads_told
 from policies import fields_of
 from reference import BUILTIN, acts_of, announcement, input_of, number, text_of
 
@@ -159,14 +159,14 @@ def service_of(side, topic):
 
 def samples_in(recording):
     """each sample of a recording in order: the prefix that sends it, the entity of its writer, and its octets. One in pieces stands where it
-    is whole: one of a built-in writer whoever hears the pieces, another one where a listener hears all of them"""
+    is whole, whoever hears them"""
     pieces, places = {}, {}
     for acts in recording:
         for act in acts:
             if act['kind'] == 'data_frag':
                 pieces.setdefault((act['source'], act['writer']), []).append(act)
-    for (_, writer), sent in pieces.items():
-        for piece, told in zip(sent, (payloads_told if writer in BUILTIN else told_to_listeners)(sent)):
+    for sent in pieces.values():
+        for piece, told in zip(sent, payloads_told(sent)):
             places[id(piece)] = told
     for acts in recording:
         for act in acts:

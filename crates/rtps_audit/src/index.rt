@@ -12,9 +12,7 @@ ghost use Rattle.rtps_audit.specs.Speech as speech;
 use crate::announced_places::{AnnouncedPlace, note_places};
 use crate::answer::{Answer, Answers, note_answers};
 use crate::first_asked::FirstAsked;
-use crate::front_ranges::FrontRanges;
 use crate::groups::Groups;
-use crate::judging::judge_said;
 use crate::placed::{Placed, note_acts};
 use crate::said_between::Said;
 use crate::tallies::Tallies;
@@ -142,7 +140,7 @@ impl<'a> Index<'a> {
         ensures { (intake : intake_spec.Intake) → index.IsIndexBy intake self.now
             → IfOk result (delivered.IsExactVerdictFrom from (speech.speech_by pair.writer pair.reader (said.datagrams_until until intake.acts))) }
     {
-        judge_said::<FrontRanges>(self.alloc, &Said::until(self, pair, until), pair, from)
+        Said::until(self, pair, until).judge_from(self.alloc, pair, from)
     }
 
     /// Judges by all of the writer's numbers, as [`Index::judge_from`] does.

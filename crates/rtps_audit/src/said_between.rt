@@ -3,9 +3,15 @@ ghost use Rattle.rtps_audit.specs.declared.answer.Answer.{Answer as AnswerValue}
 ghost use Rattle.rtps_audit.specs.declared.placed.Placed.{Placed as PlacedAct};
 
 use crate::answer::Answer;
+use crate::first_asked::FirstAsked;
+use crate::front_ranges::FrontRanges;
 use crate::index::Index;
+use crate::judging::judge_said;
 use crate::placed::Placed;
+use crate::verdict::Verdict;
 use rtps_discovery::Pair;
+use rtps_ids::Memory;
+use std::alloc::Global;
 
 /// What a writer and a reader said in a recording, or in its first datagrams: the acts of the writer, the answers, and the acts of
 /// the reader.
@@ -61,7 +67,11 @@ fn answers_before(answers: &[Answer], datagram: u64) -> usize
 impl<'r, 'a> Said<'r, 'a> {
     ghost use Rattle.rtps_audit.specs.Index as index_spec;
     ghost use Rattle.rtps_audit.specs.Intake as intake;
+    ghost use Rattle.std.specs.Prelude.{IfOk, List};
+    ghost use Rattle.rtps_receiver.specs.Values as values;
+    ghost use Rattle.rtps_audit.specs.Delivered as delivered;
     ghost use Rattle.rtps_audit.specs.Said as said;
+    ghost use Rattle.rtps_audit.specs.Speech as speech;
 
     /// What a pair said in the datagrams before this one, which is counted from 1; in all, where there is none. It takes no memory.
     pub fn until(index: &'r Index<'a>, pair: Pair, until: Option<u64>) -> Said<'r, 'a>
@@ -82,5 +92,14 @@ impl<'r, 'a> Said<'r, 'a> {
                 asks,
             },
         }
+    }
+
+    /// Judges what the pair said, of the writer's numbers from `from` on, as [`Index::judge_from`] does. `Memory` is answered where what is
+    /// kept of that cannot grow.
+    pub fn judge_from(&self, alloc: Global, pair: Pair, from: FirstAsked) -> Result<Verdict, Memory>
+        ensures { (recording : List (List values.ActValue)) → said.IsSaid pair recording self.now
+            → IfOk result (delivered.IsExactVerdictFrom from (speech.speech_by pair.writer pair.reader recording)) }
+    {
+        judge_said::<FrontRanges>(alloc, self, pair, from)
     }
 }

@@ -1,9 +1,10 @@
 //! Pairs are judged one by one, with the samples that come in fragments.
 
 use crate::fault::Fault;
+use bumpalo::Bump;
 use rtps_audit::Verdict;
 use rtps_discovery::Pair;
-use rtps_fragments::{Fragments, Samples, index_as, judge_with_samples};
+use rtps_fragments::{Fragments, index_as, judge_with_samples};
 use rtps_ids::SeqNum;
 use rtps_report::datagrams_of;
 use rtps_tool::Recording;
@@ -28,10 +29,10 @@ pub(crate) fn push_verdicts(
     text: &mut String,
 ) -> Result<(), Fault> {
     let datagrams = datagrams_of(alloc, recording)?;
-    let mut samples = Samples::none(alloc);
-    let indexed = index_as(alloc, &datagrams, Fragments::Read, &mut samples)?;
+    let arena = Bump::new(alloc);
+    let indexed = index_as(alloc, &datagrams, Fragments::Read, &arena)?;
     for pair in pairs {
-        let verdict = judge_with_samples(&indexed.index, *pair, SeqNum::first())?;
+        let verdict = judge_with_samples(alloc, &indexed.index, *pair, SeqNum::first())?;
         let (writer, reader) = (pair.writer, pair.reader);
         writeln!(text, "-- {writer} {reader} {}", verdict_word(&verdict))?;
     }

@@ -99,7 +99,7 @@ with_option file frames behind ranges None all one = subst (AreSound file frames
 with_option file frames behind ranges (Some range) all one = pushed file frames behind ranges range all one
 
 -- what stands in a packet stands behind the file and the packets before it
-in_packet : (file behind packet : List ℕ) (range : ByteRange)
+pub in_packet : (file behind packet : List ℕ) (range : ByteRange)
     → slice_range (file ++ (behind ++ packet)) (length file + length behind + range.from) (length file + length behind + range.to) ≡ slice_range packet range.from range.to
 in_packet file behind packet range =
     let at = length file + length behind in

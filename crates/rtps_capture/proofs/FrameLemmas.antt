@@ -51,11 +51,12 @@ block_stands order file at within =
 pub record LeadsOn (old new : frames_spec.Unread) : Type 0 where
   pub onward : old.at < new.at
   pub same : new.octets ≡ old.octets
+  pub captures : new.captures ≡ old.captures
 
 block_leads : (unread : frames_spec.Unread) (found : Block) → unread.at < length unread.octets → blocks.BlockStands unread.at unread.octets found → LeadsOn unread (frames_spec.step_of_block unread found).next
-block_leads unread Block.Unfinished left stands = record { onward = left; same = refl }
-block_leads unread Block.Bad left stands = record { onward = left; same = refl }
-block_leads unread (Block.Whole whole) left stands = record { onward = omega (arith, stands.0); same = refl }
+block_leads unread Block.Unfinished left stands = record { onward = left; same = refl; captures = refl }
+block_leads unread Block.Bad left stands = record { onward = left; same = refl; captures = refl }
+block_leads unread (Block.Whole whole) left stands = record { onward = omega (arith, stands.0); same = refl; captures = refl }
 
 -- one of two steps
 abbrev chosen : Bool → frames_spec.Step → frames_spec.Step → frames_spec.Step
@@ -81,10 +82,10 @@ record_leads unread records left =
 
     by : (room damaged fits : Bool)
         → LeadsOn unread (chosen room (chosen damaged (frames_spec.end_with Frame.Damaged unread) (chosen fits (whole_step unread records size) (frames_spec.end_with Frame.Rest unread))) (frames_spec.end_with Frame.Rest unread)).next
-    by false damaged fits = record { onward = left; same = refl }
-    by true true fits = record { onward = left; same = refl }
-    by true false true = record { onward = omega arith; same = refl }
-    by true false false = record { onward = left; same = refl }
+    by false damaged fits = record { onward = left; same = refl; captures = refl }
+    by true true fits = record { onward = left; same = refl; captures = refl }
+    by true false true = record { onward = omega arith; same = refl; captures = refl }
+    by true false false = record { onward = left; same = refl; captures = refl }
 
 pub step_leads : (unread : frames_spec.Unread) → unread.at < length unread.octets → LeadsOn unread (frames_spec.step_of unread).next
 unfolding frames_spec.step_of
@@ -137,12 +138,6 @@ left-step unread left = by (length unread.octets - unread.at) refl
         let same = ap (λ (l : List ℕ). length l) leads.same in
         rw more (ap (λ (frames : List Frame). (frames_spec.step_of unread).gives ∷ frames)
         (steps_within-enough n (length next.octets - next.at) next (omega (arith, leads.onward, same)) (omega arith)))
-
--- a step that was taken gave what is next
-pub gives_next : (old new : frames_spec.Unread) (frame : Frame) (step : frames_spec.Step) → frames_spec.step_of old ≡ step → old.at < length old.octets → frames_spec.TakesStep step frame new
-    → frames_spec.StandsInFile (length old.octets) frame → frames_spec.GivesNext old (Some frame) new
-gives_next old new frame step is left taken stands =
-    (left-step old left ∙ ap (λ (s : frames_spec.Step). s.gives ∷ frames_spec.frames_left s.next) is ∙ ap₂ (λ (f : Frame) (u : frames_spec.Unread). f ∷ frames_spec.frames_left u) (sym taken.0) (sym taken.1), stands)
 
 -- each takes an octet at least
 length-steps_within : (n : ℕ) (unread : frames_spec.Unread) → length (frames_spec.steps_within n unread) ≤ n

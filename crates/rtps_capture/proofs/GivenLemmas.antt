@@ -20,7 +20,7 @@ pub repeat_stays : (file : List ℕ) (key : FragmentKey) (making : Making) (piec
 unfolding assembly.taken_piece
 repeat_stays file key making piece is = rw is (refl, refl)
 
-clash-sym : (one other : Piece) → pieces_spec.clashes one other ≡ pieces_spec.clashes other one
+pub clash-sym : (one other : Piece) → pieces_spec.clashes one other ≡ pieces_spec.clashes other one
 clash-sym one other = grind (arith, nat_tests)
 
 none_passes : (test : Piece → Bool) (pieces : List Piece) → AllByRecursion (λ piece. test piece ≡ false) pieces → list_any test pieces ≡ false

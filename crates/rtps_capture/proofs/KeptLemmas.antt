@@ -18,7 +18,7 @@ same_kept pieces others old new held same entries kept =
     subst (λ (l : List Piece). pieces_spec.AreKept l new held) (sym same) (record { ordered = kept.ordered; small = kept.small; placed_are = entries ∙ kept.placed_are; held_is = kept.held_is })
 
 -- the pieces without the oldest
-order_from_put : (piece : Piece) (pieces : List Piece) → pieces_spec.IsInOrder (pieces_spec.put_in_order piece pieces) → pieces_spec.IsInOrder pieces
+pub order_from_put : (piece : Piece) (pieces : List Piece) → pieces_spec.IsInOrder (pieces_spec.put_in_order piece pieces) → pieces_spec.IsInOrder pieces
 order_from_put piece [] order = tt
 order_from_put piece (first ∷ pieces) order = by (nat_lt first.start piece.start) order (order_from_put piece pieces)
   where

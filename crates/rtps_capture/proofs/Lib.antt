@@ -1,5 +1,4 @@
 pub mod AssemblyLemmas
-pub mod CaptureLemmas
 pub mod CarriedLemmas
 pub mod ComingLemmas
 pub mod FrameLemmas
@@ -14,3 +13,14 @@ pub mod SentLemmas
 pub mod GivenLemmas
 pub mod TimeLemmas
 pub mod ForgettingLemmas
+pub mod HeldLemmas
+pub mod OctetLemmas
+pub mod LeftLemmas
+pub mod CourseLemmas
+pub mod BlockLemmas
+pub mod AdvanceLemmas
+pub mod AlikeLemmas
+pub mod AgreementLemmas
+pub mod BlockFrontLemmas
+pub mod SettledLemmas
+pub mod MovedLemmas

@@ -21,9 +21,10 @@ use Rattle.rtps_capture.specs.declared.packet.Carried.{Carried}
 use Rattle.rtps_capture.specs.declared.packet.Contents.{Contents}
 use Rattle.rtps_capture.specs.declared.passed.Header.{Header}
 
--- a datagram ends within so many octets, and not at their beginning
+-- a datagram ends within so many octets, and not at their beginning; so does a fragment
 abbrev pub Ends : ℕ → Contents → Type 0
 Ends size (Contents.Datagram range) = (range.from ≤ range.to) × (0 < range.to) × (range.to ≤ size)
+Ends size (Contents.Fragment fragment) = (fragment.range.from ≤ fragment.range.to) × (0 < fragment.range.to) × (fragment.range.to ≤ size)
 Ends size _ = Unit {0}
 
 udp_ends : (packet : List ℕ) (range : ByteRange) (size : ℕ) → range.to ≤ size → Ends size (packets.udp_within packet range)
@@ -38,22 +39,22 @@ udp_ends packet range size fits = by (nat_le (range.from + udp.SIZE) range.to &&
     by true says = (grind (arith, nat_tests), grind (arith, nat_tests), grind (arith, nat_tests))
     by false says = tt
 
-fragment_ends : (fragment : Fragment) (size : ℕ) → Ends size (packets.fragment_of fragment)
-fragment_ends fragment size = by (packets.can_be_fragment fragment)
+fragment_ends : (fragment : Fragment) (size : ℕ) → fragment.range.from ≤ fragment.range.to → 0 < fragment.range.to → fragment.range.to ≤ size → Ends size (packets.fragment_of fragment)
+fragment_ends fragment size ordered some fits = by (packets.can_be_fragment fragment)
   where
     by : (can : Bool) → Ends size (if can then Contents.Fragment fragment else Contents.Other)
-    by true = tt
+    by true = (ordered, some, fits)
     by false = tt
 
 -- a datagram, or a fragment
-one_ends : (whole : Bool) (packet : List ℕ) (range : ByteRange) (fragment : Fragment) → range.to ≤ length packet
-    → Ends (length packet) (if whole then packets.udp_within packet range else packets.fragment_of fragment)
-one_ends true packet range fragment fits = udp_ends packet range (length packet) fits
-one_ends false packet range fragment fits = fragment_ends fragment (length packet)
+one_ends : (whole : Bool) (packet : List ℕ) (fragment : Fragment) → fragment.range.from ≤ fragment.range.to → 0 < fragment.range.to → fragment.range.to ≤ length packet
+    → Ends (length packet) (if whole then packets.udp_within packet fragment.range else packets.fragment_of fragment)
+one_ends true packet fragment ordered some fits = udp_ends packet fragment.range (length packet) fits
+one_ends false packet fragment ordered some fits = fragment_ends fragment (length packet) ordered some fits
 
 ipv4_ends : (packet : List ℕ) → Ends (length packet) (packets.contents_of_ipv4 packet)
 unfolding packets.contents_of_ipv4
-ipv4_ends packet = by (nat_le packet_4.LEAST (length packet)) (packets.is_ipv4_udp packet) (nat_le (packets.total_size packet) (length packet)) refl
+ipv4_ends packet = by (nat_le packet_4.LEAST (length packet)) (packets.is_ipv4_udp packet) refl (nat_le (packets.total_size packet) (length packet)) refl
   where
     range : ByteRange
     range = record { from = packets.header_size packet; to = packets.total_size packet }
@@ -66,16 +67,16 @@ ipv4_ends packet = by (nat_le packet_4.LEAST (length packet)) (packets.is_ipv4_u
       range = range;
     }
 
-    by : (room udp_is there : Bool) → nat_le (packets.total_size packet) (length packet) ≡ there
+    by : (room udp_is : Bool) → packets.is_ipv4_udp packet ≡ udp_is → (there : Bool) → nat_le (packets.total_size packet) (length packet) ≡ there
         → Ends (length packet) (if room then (if udp_is then (if there then packets.contents_of_whole_ipv4 packet else Contents.Cut) else Contents.Other) else Contents.Cut)
-    by false udp_is there is = tt
-    by true false there is = tt
-    by true true false is = tt
-    by true true true is = one_ends (octet_numbers.two_at Order.Big packet packet_4.FRAGMENT % packet_4.FRAGMENT_BITS == 0) packet range fragment (grind (arith, nat_tests))
+    by false udp_is udp there is = tt
+    by true false udp there is = tt
+    by true true udp false is = tt
+    by true true udp true is = one_ends (octet_numbers.two_at Order.Big packet packet_4.FRAGMENT % packet_4.FRAGMENT_BITS == 0) packet fragment (grind (arith, nat_tests)) (grind (arith, nat_tests)) (grind (arith, nat_tests))
 
 behind_ends : (packet : List ℕ) (last : Header) → Ends (length packet) (packets.contents_behind packet last)
 behind_ends packet last =
-    by (last.kind == packet_4.UDP) (last.kind == extension.FRAGMENT && nat_le (last.at + extension.SIZE) (length packet) && slice_index packet last.at == packet_4.UDP)
+    by (last.kind == packet_4.UDP) (last.kind == extension.FRAGMENT && nat_le (last.at + extension.SIZE) (length packet) && slice_index packet last.at == packet_4.UDP) refl
   where
     range : ByteRange
     range = record { from = last.at; to = length packet }
@@ -88,10 +89,11 @@ behind_ends packet last =
       range = record { from = last.at + extension.SIZE; to = length packet };
     }
 
-    by : (udp_is part : Bool) → Ends (length packet) (if udp_is then packets.udp_within packet range else if part then packets.fragment_of fragment else Contents.Other)
-    by true part = udp_ends packet range (length packet) (omega arith)
-    by false true = fragment_ends fragment (length packet)
-    by false false = tt
+    by : (udp_is part : Bool) → (last.kind == extension.FRAGMENT && nat_le (last.at + extension.SIZE) (length packet) && slice_index packet last.at == packet_4.UDP) ≡ part
+        → Ends (length packet) (if udp_is then packets.udp_within packet range else if part then packets.fragment_of fragment else Contents.Other)
+    by true part is = udp_ends packet range (length packet) (omega arith)
+    by false true is = fragment_ends fragment (length packet) (grind (arith, nat_tests)) (grind (arith, nat_tests)) (omega arith)
+    by false false is = tt
 
 whole_ends : (packet : List ℕ) → Ends (length packet) (packets.contents_of_whole packet)
 unfolding packets.contents_of_whole
@@ -99,6 +101,7 @@ whole_ends packet = behind_ends packet (passed.last_within (passed.extension_pas
 
 ends_more : (size more : ℕ) (found : Contents) → size ≤ more → Ends size found → Ends more found
 ends_more size more (Contents.Datagram range) fits ends = (ends.0, ends.1, omega (arith, ends.2))
+ends_more size more (Contents.Fragment fragment) fits ends = (ends.0, ends.1, omega (arith, ends.2))
 ends_more size more _ fits ends = tt
 
 ipv6_ends : (packet : List ℕ) → Ends (length packet) (packets.contents_of_ipv6 packet)
@@ -118,6 +121,7 @@ ipv6_ends packet = by (nat_le packet_6.SIZE (length packet)) (packets.is_ipv6_ud
 -- contents of the octets from a place on
 moved_ends : (by : ℕ) (octets : List ℕ) (found : Contents) → Ends (length (drop by octets)) found → Ends (length octets) (packets.moved_contents by found)
 moved_ends by octets (Contents.Datagram range) ends = (omega (arith, ends.0), omega (arith, ends.1), omega (arith, ends.1, ends.2, length-drop by octets))
+moved_ends by octets (Contents.Fragment fragment) ends = (omega (arith, ends.0), omega (arith, ends.1), omega (arith, ends.1, ends.2, length-drop by octets))
 moved_ends by octets _ ends = tt
 
 contents_end : (kind : LinkType) (frame : List ℕ) → Ends (length frame) (packets.contents_carried frame (packets.packet_of kind frame))
@@ -132,7 +136,7 @@ whole_or_other_ends : (size : ℕ) (found : Contents) → Ends size found → En
 whole_or_other_ends size (Contents.Datagram range) ends = ends
 whole_or_other_ends size _ ends = tt
 
-read_ends : (captures : Captures) (kind : LinkType) (frame : List ℕ) → Ends (length frame) (packets.contents_read captures kind frame)
+pub read_ends : (captures : Captures) (kind : LinkType) (frame : List ℕ) → Ends (length frame) (packets.contents_read captures kind frame)
 unfolding packets.contents_read
 read_ends Captures.Any kind frame = contents_end kind frame
 read_ends Captures.Classic kind frame = by (packets.is_plain (packets.size_in_front kind) (packets.packet_of kind frame))

@@ -67,6 +67,22 @@ block_at order file at =
     (if nat_lt (length file - at) block.LEAST then Block.Unfinished else section_with (order_told file (at + section.MAGIC)) file at)
     else block_with (octet_numbers.four_at order file at) order file at
 
+-- how many octets decide what a block of this type and length is: all of it, or its front where that tells that it cannot be
+abbrev pub needed_sized : ℕ → ℕ → ℕ
+needed_sized kind size = if is_size kind size then size else block.LEAST
+
+-- of a block whose numbers lie in this order; None where its front does not tell it
+abbrev pub needed_ordered : ℕ → Option Order → List ℕ → ℕ → ℕ
+needed_ordered kind None file at = block.LEAST
+needed_ordered kind (Some order) file at = needed_sized kind (octet_numbers.four_at order file (at + block.LENGTH))
+
+-- how many octets decide what the block at a place is
+abbrev pub block_needed : Order → List ℕ → ℕ → ℕ
+block_needed order file at =
+    if nat_lt (length file - at) block.LEAST then block.LEAST
+    else if octet_numbers.four_at order file at == block.SECTION then needed_ordered block.SECTION (order_told file (at + section.MAGIC)) file at
+    else needed_sized (octet_numbers.four_at order file at) (octet_numbers.four_at order file (at + block.LENGTH))
+
 -- a block stands in the file, with room for its fixed fields
 abbrev pub BlockStands : ℕ → List ℕ → Block → Type 0
 BlockStands at file (Block.Whole whole) = (at + block.LEAST + fixed_size whole.kind ≤ whole.to) × (whole.to ≤ length file)

@@ -2,7 +2,7 @@
 -- own: a frame is ignored that gives no datagram, is no fragment of a packet that gives one, and is no repeat. Faults stand at their
 -- places in the file: the first one is told. A file that ends within a record or a block is no fault: a recorder that is stopped
 -- leaves such a file, and what was not recorded cannot be told from what was not sent. Of classic captures alone it is one.
-use Rattle.std.specs.Prelude.{ℕ, ◌+◌, ◌-◌, ◌*◌, ◌^◌, ◌≡◌, ◌≤◌, ◌==◌, nat_lt, if◌then◌else◌, List, [], ◌∷◌, ◌++◌, length, slice_range, All, Option, Some, None, option_map, option_to_list, Result, Ok, Err}
+use Rattle.std.specs.Prelude.{ℕ, ◌+◌, ◌-◌, ◌≡◌, ◌==◌, nat_lt, if◌then◌else◌, List, [], ◌∷◌, ◌++◌, length, slice_range, Option, Some, None, option_map, option_to_list, Result, Ok, Err}
 use Rattle.std.specs.Option.{option_or}
 use Rattle.std.specs.Ordering.{is_eq}
 use Rattle.rtps_capture.specs.Frames as frames_spec
@@ -12,8 +12,6 @@ use Rattle.rtps_capture.specs.Pieces as pieces
 use Rattle.rtps_capture.specs.Recent as recent
 use Rattle.rtps_capture.specs.Times as times
 use Rattle.rtps_capture.specs.declared.capture.CaptureFault.{CaptureFault}
-use Rattle.rtps_capture.specs.declared.capture.CaptureReading.{CaptureReading}
-use Rattle.rtps_capture.specs.declared.capture.Collected.{Collected as CollectedStruct}
 use Rattle.rtps_capture.specs.declared.capture.Counts.{Counts}
 use Rattle.rtps_capture.specs.declared.captures.Captures.{Captures}
 use Rattle.rtps_capture.specs.declared.frames.Frame.{Frame}
@@ -211,67 +209,7 @@ pub record EndIsGreatestTime : Type 0 where
   pub greatest : (captures : Captures) (most : ℕ) (file : List ℕ) (unread : frames_spec.Unread) (answer : Answer) → frames_spec.opened captures file ≡ Some unread
       → capture_read captures most file ≡ Ok answer → answer.end ≡ last_time (frames_spec.frames_left unread)
 
--- what a reading tells with these octets behind the file
-abbrev pub reading_value : List ℕ → CaptureReading → Answer
-reading_value behind reading = record {
-  datagrams = reading.datagrams.items;
-  times = reading.times.items;
-  frames = reading.frames.items;
-  start = reading.start;
-  end = reading.end;
-  behind = behind;
-  pieces = reading.pieces;
-  cut = reading.cut;
-  other = reading.other;
-  links = reading.links;
-  first_link = reading.first_link;
-}
-
 -- the fault is the one that is there, or memory was refused
 abbrev pub IsFault : {X : Type 0} → Result X CaptureFault → CaptureFault → Type 0
 IsFault is CaptureFault.Memory = Unit {0}
 IsFault is other = is ≡ Err other
-
--- it is what is told, with the octets of the file and those behind it, or the fault
-abbrev pub IsAnswer : List ℕ → Result Answer CaptureFault → Result CaptureReading CaptureFault → Type 0
-IsAnswer file is (Ok reading) = (behind : List ℕ) × (reading.octets.items ≡ file ++ behind) × (is ≡ Ok (reading_value behind reading))
-IsAnswer file is (Err fault) = IsFault is fault
-
--- all frames that are ignored
-abbrev pub ignored : CaptureReading → ℕ
-ignored reading = reading.pieces + reading.cut + reading.other + reading.links
-
--- what a struct has collected
-abbrev pub collected_of : CollectedStruct → Collected
-collected_of so_far = record {
-  recent = recent.recent_of so_far.assembly.recents;
-  datagrams = so_far.datagrams.items;
-  times = so_far.times.items;
-  frames = so_far.frames.items;
-  start = so_far.start;
-  end = so_far.end;
-  behind = so_far.octets.behind;
-  counts = so_far.counts;
-}
-
--- the frames that are counted are no more than there are, less so many, and each of them settled fewer fragments than 64 bits count
-pub record IsCountedWith (room : ℕ) (so_far : CollectedStruct) : Type 0 where
-  pub told : so_far.counts.fresh + so_far.counts.cut + so_far.counts.links + room ≤ so_far.counts.frames
-  pub settled : so_far.counts.settled + 2 ^ 64 * room ≤ 2 ^ 64 * so_far.counts.frames
-  pub other : so_far.counts.other + room ≤ so_far.counts.frames
-
--- they are no more than there are
-abbrev pub IsCounted : CollectedStruct → Type 0
-IsCounted so_far = IsCountedWith 0 so_far
-
--- the ranges are in so many octets
-abbrev pub AreWithin : ℕ → List ByteRange → Type 0
-AreWithin size ranges = All (λ range. (range.from ≤ range.to) × (range.to ≤ size)) ranges
-
--- how many octets there are, of the file and behind it
-abbrev pub size_of : CollectedStruct → ℕ
-size_of so_far = length so_far.octets.file + length so_far.octets.behind
-
--- the ranges are in these octets, if they were
-abbrev pub StaysWithin : CollectedStruct → CollectedStruct → Type 0
-StaysWithin old new = AreWithin (size_of old) old.datagrams.items → AreWithin (size_of new) new.datagrams.items

@@ -2,8 +2,7 @@
 -- Generic Capture File Format (IETF draft), 4 "Block Definitions".
 -- own: behind a record or a block that is not whole, or cannot be, nothing is read, since what is there cannot be found. A frame with
 -- more octets than tools capture of one cannot be; of classic captures alone any number of octets is taken.
-use Rattle.std.specs.Prelude.{ℕ, zero, suc, ◌+◌, ◌-◌, ◌≡◌, ◌==◌, ◌≤◌, ◌<◌, min, nat_le, nat_lt, Bool, false, if◌then◌else◌, List, [], ◌∷◌, ◌++◌, length, slice_get, slice_range, Option, Some, None, IfSome, option_and_then, option_map}
-use Rattle.std.specs.Iterator.{YieldsFirst}
+use Rattle.std.specs.Prelude.{ℕ, zero, suc, ◌+◌, ◌-◌, ◌≡◌, ◌==◌, ◌≤◌, ◌<◌, min, nat_le, nat_lt, Bool, false, if◌then◌else◌, List, [], ◌∷◌, ◌++◌, length, slice_get, slice_range, Option, Some, None, option_and_then, option_map}
 use Rattle.rtps_ids.specs.declared.order.Order.{Order}
 use Rattle.rtps_capture.specs.Blocks as blocks
 use Rattle.rtps_capture.specs.LinkTypes as link_types
@@ -243,7 +242,3 @@ unread_of file frames = record {
   records = frames.records;
   interfaces = frames.interfaces.items;
 }
-
--- what is next was given, and what is behind it is left; a frame stands within the file
-abbrev pub GivesNext : Unread → Option Frame → Unread → Type 0
-GivesNext old result new = YieldsFirst frames_left old result new × IfSome result (StandsInFile (length old.octets))

@@ -1,8 +1,9 @@
 -- How a capture begins. PCAP Capture File Format (IETF draft), 4 "File Header".
 -- own: every minor version is taken, since later ones only add.
 use Rattle.std.specs.Prelude.{ℕ, ◌==◌, ◌||◌, ◌%◌, nat_lt, Bool, if◌then◌else◌, List, length, take, Option, Some, None, option_and_then}
-use Rattle.std.specs.Option.{is_none}
+use Rattle.std.specs.Option.{is_none, is_some}
 use Rattle.rtps_ids.specs.declared.order.Order.{Order}
+use Rattle.rtps_capture.specs.Blocks as blocks
 use Rattle.rtps_capture.specs.LinkTypes as link_types
 use Rattle.rtps_capture.specs.OctetNumbers as octet_numbers
 use Rattle.rtps_capture.specs.declared.captures.Captures.{Captures}
@@ -30,3 +31,15 @@ unless_read number = if is_none (link_types.link_read Captures.Classic number) t
 -- the link type of a capture of that version that is not read as a classic one
 abbrev pub unread_link_type_of : List ℕ → Option ℕ
 unread_link_type_of file = option_and_then unless_read (option_and_then (λ order. link_type_in order file) (order_of file))
+
+-- how many octets decide whether a file that is no classic capture is a pcapng file, where these captures are read
+abbrev pub section_needed : Captures → List ℕ → ℕ
+section_needed Captures.Classic octets = 4
+section_needed Captures.Any octets = if blocks.is_pcapng octets then blocks.block_needed Order.Big octets 0 else 4
+
+-- how many octets decide whether a file is one of these captures, and which
+abbrev pub opening_needed : Captures → List ℕ → ℕ
+opening_needed captures octets =
+    if nat_lt (length octets) 4 then 4
+    else if is_some (order_of octets) then file_layout.SIZE
+    else section_needed captures octets

@@ -1,5 +1,6 @@
 ghost use Rattle.std.specs.Prelude.{◌≡◌, ◌≤◌, ◌<◌, ◌+◌, ◌^◌, [], ◌∷◌, length, take, IfOk, IfSome, OnOk, None};
 ghost use Rattle.std.specs.List.{position};
+ghost use Rattle.rtps_capture.specs.Alike as alike;
 ghost use Rattle.rtps_capture.specs.Assembly as assembly;
 ghost use Rattle.rtps_capture.specs.Packets as packets;
 ghost use Rattle.rtps_capture.specs.Pieces as pieces;
@@ -82,6 +83,16 @@ impl Making {
             return self.give(file, key, fresh, packet);
         }
         Ok(Taken::nothing(fresh))
+    }
+
+    /// The same fragments, whose octets are put behind those of `to`.
+    fn moved(self, alloc: Global, from: &[u8], to: &mut Vec<u8>) -> Result<Making, Memory>
+        ensures moved { IfOk result (λ moved. alike.MakingIsMoved from.now to.new.items self moved) }
+        ensures behind { IfOk result (λ _. alike.GrowsTo to.old.items to.new.items) }
+    {
+        let making = self.making.moved(alloc, from, to)?;
+        let given = self.given.moved(alloc, from, to)?;
+        Ok(Making { making, given })
     }
 
     /// Gives the packet in the making, which is whole, if it is right.
@@ -197,6 +208,23 @@ impl RecentMakings {
             .position(|one| one.identification == identification)
     }
 
+    /// The same keys, the octets of whose fragments are put behind those of `to`.
+    fn moved(self, from: &[u8], to: &mut Vec<u8>) -> Result<RecentMakings, Memory>
+        ensures moved { IfOk result (λ moved. alike.KeysAreMoved from.now to.new.items self.makings.items moved.makings.items) }
+        ensures behind { IfOk result (λ _. alike.GrowsTo to.old.items to.new.items) }
+    {
+        let mut moved = RecentMakings::new(self.alloc);
+        let mut left = self.makings;
+        'keys: while let Some(one) = left.pop_front() {
+            let making = one.making.moved(self.alloc, from, to)?;
+            moved.makings.push_back(KeyedMaking {
+                identification: one.identification,
+                making,
+            })?;
+        }
+        Ok(moved)
+    }
+
     /// Puts the fragments of a key in front of the others. The last key goes where there are as many as are kept.
     fn put_first(&mut self, identification: u32, making: Making) -> Result<(), Memory>
         ensures { OnOk result (self.new.makings.items ≡ take MOST_KEPT (record { identification = identification; making = making } ∷ self.old.makings.items)) }
@@ -225,6 +253,18 @@ impl Assembly {
             alloc,
             recents: BTreeMap::new(alloc),
         }
+    }
+
+    /// Puts the octets of all fragments that are remembered behind those of `to`. After `Memory` nothing is promised of them.
+    pub(crate) fn settle(&mut self, from: &[u8], to: &mut Vec<u8>) -> Result<(), Memory>
+        ensures moved { IfOk result (λ _. (hosts : HostsValue) → alike.KeysAreMoved from.now to.new.items (recent.recent_of self.old.recents hosts) (recent.recent_of self.new.recents hosts)) }
+    {
+        let mut left = std::mem::replace(&mut self.recents, BTreeMap::new(self.alloc));
+        'hosts: while let Some((hosts, recent)) = left.pop_first() {
+            let moved = recent.moved(from, to)?;
+            self.recents.insert(hosts, moved)?;
+        }
+        Ok(())
     }
 
     /// Takes one fragment more, whose range is one of the file. The octets of a packet that gives its datagram now are put into

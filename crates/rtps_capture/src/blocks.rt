@@ -100,6 +100,36 @@ fn block_with(kind: u32, order: Order, octets: &[u8], at: usize) -> Block
     Block::Whole(WholeBlock { kind, order, to })
 }
 
+#[inline]
+fn needed_sized(kind: u32, size: u32) -> usize
+    ensures { result ≡ blocks.needed_sized kind size }
+{
+    let size = size as usize;
+    if size % block::UNIT != 0 || size < block::LEAST + fixed_size(kind) {
+        return block::LEAST;
+    }
+    size
+}
+
+/// How many octets decide what the block at this place is, by those that are held of it: all of the block, or its front where that
+/// tells that it cannot be.
+pub(crate) fn block_needed(order: Order, octets: &[u8], at: usize) -> usize
+    requires { at ≤ length octets.now }
+    ensures { result ≡ blocks.block_needed order octets.now at }
+{
+    if octets.len() - at < block::LEAST {
+        return block::LEAST;
+    }
+    let kind = four_octets(order, octets, at);
+    if kind != block::SECTION {
+        return needed_sized(kind, four_octets(order, octets, at + block::LENGTH));
+    }
+    match order_told(octets, at + section::MAGIC) {
+        Some(own) => needed_sized(kind, four_octets(own, octets, at + block::LENGTH)),
+        None => block::LEAST,
+    }
+}
+
 #[tactic(auto, unfolding(crate::specs::Blocks::block_at))]
 pub(crate) fn block_at(order: Order, octets: &[u8], at: usize) -> Block
     requires { at ≤ length octets.now }

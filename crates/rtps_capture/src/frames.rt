@@ -1,9 +1,10 @@
-ghost use Rattle.std.specs.Prelude.{◌≡◌, ◌≤◌, ◌<◌, length, IfOk, MatchOption, None, Some};
+ghost use Rattle.std.specs.Prelude.{◌≡◌, ◌≤◌, ◌<◌, length, IfOk, IfSome, MatchOption, None, OnOk, Some};
 ghost use Rattle.rtps_capture.specs.Blocks as blocks;
 ghost use Rattle.rtps_capture.specs.Frames as frames_spec;
+ghost use Rattle.rtps_capture.specs.Left as left;
 ghost use Rattle.rtps_capture.specs.declared.blocks.Block.TheVariants.{Whole};
 
-use crate::blocks::{Block, Interface, WholeBlock, block_at};
+use crate::blocks::{Block, Interface, WholeBlock, block_at, block_needed};
 use crate::byte_range::ByteRange;
 use crate::captures::Captures;
 use crate::layout::{block, file, interface, packet_block, record};
@@ -197,6 +198,7 @@ impl Frames {
     #[tactic(auto, unfolding(crate::specs::Frames::opened, crate::specs::Opening::link_type_in))]
     pub(crate) fn open(alloc: Global, captures: Captures, octets: &[u8]) -> Option<Frames>
         ensures opened { MatchOption result (frames_spec.opened captures octets.now ≡ None) (λ frames. frames_spec.opened captures octets.now ≡ Some (frames_spec.unread_of octets.now frames)) }
+        ensures within { IfSome result (λ frames. frames.at ≤ length octets.now) }
     {
         if let Some(order) = capture_order(octets) {
             let link = link_read(captures, link_type_in(order, octets)?)?;
@@ -223,23 +225,64 @@ impl Frames {
         }
     }
 
-    /// What the next record or block gives. None after the last one, and after one behind which nothing is read. After
-    /// `Memory` nothing is promised of what is unread.
-    pub(crate) fn next_frame(&mut self, octets: &[u8]) -> Result<Option<Frame>, Memory>
-        ensures { IfOk result (λ item. frames_spec.GivesNext (frames_spec.unread_of octets.now self.old) item (frames_spec.unread_of octets.now self.new)) }
+    /// Where the next record or block begins.
+    pub(crate) fn at(&self) -> usize
+        ensures { result ≡ self.now.at }
     {
-        if self.at >= octets.len() {
-            return Ok(None);
+        self.at
+    }
+
+    pub(crate) fn captures(&self) -> Captures
+        ensures { result ≡ self.now.captures }
+    {
+        self.captures
+    }
+
+    /// Counts places from here on: the octets that are passed are not given any more.
+    pub(crate) fn rebase(&mut self)
+        ensures { self.new ≡ record self.old { at = 0 } }
+    {
+        self.at = 0;
+    }
+
+    /// How many octets from its place on decide what the next record or block gives, by those that are held of it.
+    pub(crate) fn needed(&self, octets: &[u8]) -> usize
+        requires { self.now.at ≤ length octets.now }
+        ensures { result ≡ left.needed (frames_spec.unread_of octets.now self.now) }
+    {
+        if self.records.is_none() {
+            return block_needed(self.order, octets, self.at);
         }
+        if octets.len() - self.at < record::SIZE {
+            return record::SIZE;
+        }
+        let size = four_octets(self.order, octets, self.at + record::CAPTURED) as usize;
+        if matches!(self.captures, Captures::Any) && size > record::MOST {
+            return record::SIZE;
+        }
+        record::SIZE + size
+    }
+
+    /// What the next record or block gives, which is there. After `Memory` nothing is promised of what is unread.
+    #[tactic(auto, unfolding(crate::specs::Frames::step_of))]
+    pub(crate) fn step(&mut self, octets: &[u8]) -> Result<Frame, Memory>
+        requires { self.old.at < length octets.now }
+        ensures step { IfOk result (λ frame. frames_spec.TakesStep (frames_spec.step_of (frames_spec.unread_of octets.now self.old)) frame (frames_spec.unread_of octets.now self.new)) }
+        ensures within { IfOk result (λ frame. frames_spec.StandsInFile (length octets.now) frame) }
+        ensures onward { OnOk result (self.old.at < self.new.at) }
+        ensures at { self.new.at ≤ length octets.now }
+        ensures captures { self.new.captures ≡ self.old.captures }
+    {
         match self.records {
-            Some(records) => Ok(Some(self.next_record(octets, records))),
-            None => Ok(Some(self.next_block(octets)?)),
+            Some(records) => Ok(self.next_record(octets, records)),
+            None => self.next_block(octets),
         }
     }
 
     /// Gives this, and nothing behind it.
     fn end_with(&mut self, frame: Frame, octets: &[u8]) -> Frame
-        ensures { frames_spec.TakesStep (frames_spec.end_with frame (frames_spec.unread_of octets.now self.old)) result (frames_spec.unread_of octets.now self.new) }
+        ensures step { frames_spec.TakesStep (frames_spec.end_with frame (frames_spec.unread_of octets.now self.old)) result (frames_spec.unread_of octets.now self.new) }
+        ensures at { (self.new.at ≡ length octets.now) × (self.new.captures ≡ self.old.captures) }
     {
         self.at = octets.len();
         frame
@@ -250,6 +293,8 @@ impl Frames {
         requires { self.old.at < length octets.now }
         ensures step { frames_spec.TakesStep (frames_spec.step_of_record (frames_spec.unread_of octets.now self.old) records) result (frames_spec.unread_of octets.now self.new) }
         ensures within { frames_spec.StandsInFile (length octets.now) result }
+        ensures onward { (self.old.at < self.new.at) × (self.new.at ≤ length octets.now) }
+        ensures captures { self.new.captures ≡ self.old.captures }
     {
         let room = octets.len() - self.at;
         if room < record::SIZE {
@@ -276,6 +321,9 @@ impl Frames {
         requires { self.old.at < length octets.now }
         ensures step { IfOk result (λ frame. frames_spec.TakesStep (frames_spec.step_of_block (frames_spec.unread_of octets.now self.old) (blocks.block_at self.old.order octets.now self.old.at)) frame (frames_spec.unread_of octets.now self.new)) }
         ensures within { IfOk result (λ frame. frames_spec.StandsInFile (length octets.now) frame) }
+        ensures onward { OnOk result (self.old.at < self.new.at) }
+        ensures at { self.new.at ≤ length octets.now }
+        ensures captures { self.new.captures ≡ self.old.captures }
     {
         let whole = match block_at(self.order, octets, self.at) {
             Block::Whole(whole) => whole,

@@ -1,6 +1,7 @@
 ghost use Rattle.std.specs.Prelude.{◌≡◌};
 ghost use Rattle.rtps_capture.specs.Opening as opening;
 
+use crate::blocks::{block_needed, is_pcapng};
 use crate::captures::Captures;
 use crate::layout::file;
 use crate::link_type::link_read;
@@ -8,6 +9,9 @@ use rtps_ids::{Order, u16_at, u32_at};
 
 /// How many octets of a capture tell whether it is one that is read: those of its header.
 pub const CAPTURE_HEADER_SIZE: usize = file::SIZE;
+
+/// How many octets tell the form of a file.
+const FORM: usize = 4;
 
 /// The order of the numbers in the headers of a capture, by its first four octets; None where they begin no capture
 /// (PCAP Capture File Format, 4 "File Header").
@@ -34,6 +38,23 @@ pub fn unread_link_type(octets: &[u8]) -> Option<u32>
     match link_read(Captures::Classic, number) {
         Some(_) => None,
         None => Some(number),
+    }
+}
+
+/// How many octets decide whether these begin a capture, and which, of those that are read.
+pub(crate) fn opening_needed(captures: Captures, octets: &[u8]) -> usize
+    ensures { result ≡ opening.opening_needed captures octets.now }
+{
+    if octets.len() < FORM {
+        return FORM;
+    }
+    if capture_order(octets).is_some() {
+        return file::SIZE;
+    }
+    match captures {
+        Captures::Classic => FORM,
+        Captures::Any if is_pcapng(octets) => block_needed(Order::Big, octets, 0),
+        Captures::Any => FORM,
     }
 }
 

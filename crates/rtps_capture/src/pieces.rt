@@ -1,4 +1,5 @@
-ghost use Rattle.std.specs.Prelude.{◌≡◌, ◌≤◌, ◌<◌, ◌+◌, ◌^◌, ◌++◌, ◌∷◌, [], drop, false, not, count_by, OnOk};
+ghost use Rattle.std.specs.Prelude.{◌≡◌, ◌≤◌, ◌<◌, ◌+◌, ◌^◌, ◌++◌, ◌∷◌, [], drop, false, length, not, count_by, IfOk, IfSome, OnOk};
+ghost use Rattle.rtps_capture.specs.Alike as alike;
 ghost use Rattle.rtps_capture.specs.Pieces as pieces_spec;
 ghost use Rattle.rtps_capture.specs.Packets as packets;
 
@@ -45,6 +46,18 @@ pub(crate) fn piece_octets<'a>(file: &'a [u8], piece: &Piece) -> &'a [u8]
     let rest = &file[piece.at..];
     let size = piece.end.saturating_sub(piece.start) as usize;
     &rest[..size.min(rest.len())]
+}
+
+/// The octets of a piece, where the file has all of them.
+fn whole_octets<'a>(file: &'a [u8], piece: &Piece) -> Option<&'a [u8]>
+    ensures { IfSome result (λ octets. (octets.now ≡ pieces_spec.piece_octets file.now piece.now) × (piece.now.start ≤ piece.now.end) × (piece.now.at + pieces_spec.piece_size piece.now ≤ length file.now)) }
+{
+    let size = piece.end.checked_sub(piece.start)? as usize;
+    let end = piece.at.checked_add(size)?;
+    if end > file.len() {
+        return None;
+    }
+    Some(piece_octets(file, piece))
 }
 
 fn is_same(file: &[u8], one: &Piece, other: &Piece) -> bool
@@ -180,6 +193,30 @@ impl Pieces {
             out.extend_from_slice(piece_octets(file, piece))?;
         }
         Ok(())
+    }
+
+    /// The same pieces, whose octets are put behind those of `to`. `Memory` is answered, too, where a piece does not have all of its
+    /// octets in `from`.
+    pub(crate) fn moved(
+        self,
+        alloc: Global,
+        from: &[u8],
+        to: &mut Vec<u8>,
+    ) -> Result<Pieces, Memory>
+        ensures moved { IfOk result (λ moved. alike.AreMoved from.now to.new.items self moved) }
+        ensures behind { IfOk result (λ _. alike.GrowsTo to.old.items to.new.items) }
+    {
+        let mut moved = Pieces::new(alloc);
+        let mut left = self.came;
+        'pieces: while let Some(piece) = left.pop_front() {
+            let Some(octets) = whole_octets(from, &piece) else {
+                return Err(Memory);
+            };
+            let at = to.len();
+            to.extend_from_slice(octets)?;
+            moved.add(Piece { at, ..piece })?;
+        }
+        Ok(moved)
     }
 
     pub(crate) fn clear(&mut self)

@@ -1,5 +1,6 @@
 pub mod StretchLemmas
-pub mod RangeMapLemmas
+pub mod RangesLemmas
+pub mod LeavesLemmas
 pub mod LawLemmas
 pub mod CoverageLemmas
 pub mod CountLemmas

@@ -1,8 +1,9 @@
 pub mod Counts
 pub mod Coverage
 pub mod Laws
+pub mod Leaves
 pub mod MergedRanges
 pub mod PlainRanges
-pub mod RangeMap
+pub mod Ranges
 pub mod Rising
 pub mod Stretches

@@ -3,9 +3,10 @@
 
 mod coverage;
 pub mod laws;
+mod leaves;
 mod merged_ranges;
 mod plain_ranges;
-mod range_map;
+mod ranges;
 pub mod rising;
 mod stretch;
 pub mod stretches;

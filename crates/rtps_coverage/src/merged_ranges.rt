@@ -1,23 +1,24 @@
-ghost use Rattle.std.specs.Prelude.{ℕ, ◌≡◌, ◌==◌, ◌≤◌, ◌<◌, MatchOption, false};
+ghost use Rattle.std.specs.Prelude.{ℕ, ◌≡◌, ◌==◌, ◌≤◌, ◌<◌, ◌^◌, MatchOption, false};
 ghost use Rattle.std.proofs.Props.{props};
-ghost use Rattle.rtps_coverage.specs.RangeMap as range_map;
+ghost use Rattle.rtps_coverage.specs.Ranges as ranges_spec;
+ghost use Rattle.rtps_coverage.specs.Leaves as leaves_spec;
 
 use crate::coverage::Coverage;
-use crate::range_map::{join, range_with};
+use crate::leaves::{count_of, join_leaves, range_with};
 use crate::stretch::Stretch;
 use rtps_ids::Memory;
 use std::alloc::Global;
-use std::collections::BTreeMap;
 
 /// A set of sequence numbers as ranges of which no two overlap or touch.
 ///
-/// The key of a range in the map is a number in it, and stays the same as the range grows at either end. So only a range
-/// that is apart from all others needs memory. An addition takes time in proportion to the logarithm of the number of
-/// ranges, and to those ranges that it joins into one.
+/// The ranges stand in small arrays, in the order of their numbers. Only a range that is apart from all others needs
+/// memory. The number that follows the last one is added with no search. Another addition takes time in proportion to the
+/// logarithm of the number of ranges, and to those ranges that it joins into one.
 #[derive(Drop)]
 pub struct MergedRanges {
-    kept: BTreeMap<u64, Stretch>,
-    ghost apart: { range_map.IsApart kept } by { Prim.hlevel props },
+    leaves: Vec<Vec<Stretch>>,
+    alloc: Global,
+    ghost kept: { leaves_spec.AreKept leaves.items } by { Prim.hlevel (props, ranges_spec.are_apart_prop) },
 }
 
 impl MergedRanges {
@@ -26,23 +27,24 @@ impl MergedRanges {
 
     /// The end of the range that has a number.
     pub(crate) fn end_of(&self, n: u64) -> Option<u64>
+        requires { n < 2 ^ 63 }
         ensures { MatchOption result (merged_ranges.covered_of self.now n ≡ false) (λ end. (n < end) × coverage.IsLeastFrom (merged_ranges.covered_of self.now) n end) }
     {
-        Some(range_with(&self.kept, n)?.hi)
+        Some(range_with(&self.leaves, n)?.hi)
     }
 
     /// How many ranges the set has.
     pub fn len(&self) -> usize
         ensures { result ≡ merged_ranges.count_of self.now }
     {
-        self.kept.len()
+        count_of(&self.leaves)
     }
 
     /// Whether the set has no range, and so no number.
     pub fn is_empty(&self) -> bool
         ensures { result ≡ (merged_ranges.count_of self.now == 0) }
     {
-        self.kept.is_empty()
+        self.len() == 0
     }
 }
 
@@ -60,7 +62,8 @@ impl Coverage for MergedRanges {
         ensures len { merged_ranges.count_of result ≡ 0 }
     {
         MergedRanges {
-            kept: BTreeMap::new(alloc),
+            leaves: Vec::new(alloc),
+            alloc,
         }
     }
 
@@ -78,7 +81,12 @@ impl Coverage for MergedRanges {
         if hi <= lo {
             return Ok(());
         }
-        join(&mut self.kept, lo.cast_unsigned(), hi.cast_unsigned())
+        join_leaves(
+            self.alloc,
+            &mut self.leaves,
+            lo.cast_unsigned(),
+            hi.cast_unsigned(),
+        )
     }
 
     fn front(&self) -> i64 {

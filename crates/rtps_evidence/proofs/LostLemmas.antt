@@ -9,8 +9,6 @@ use Rattle.std.proofs.lemmas.Bool.{and_parts, leb-true, ltb-true}
 use Rattle.rtps_discovery.specs.declared.matching.Pair.{Pair}
 use Rattle.rtps_audit.specs.Intake as intake
 use Rattle.rtps_audit.specs.Placed as placed
-use Rattle.rtps_audit.specs.Said as said
-use Rattle.rtps_audit.specs.declared.report.Row.{Row}
 use Rattle.rtps_receiver.specs.Values as values
 use Rattle.rtps_coverage.specs.Counts as counts
 use Rattle.rtps_coverage.specs.Stretches as stretches
@@ -23,6 +21,7 @@ use Rattle.rtps_evidence.specs.Missed as missed
 use Rattle.rtps_evidence.specs.OtherSide as other_side
 use Rattle.rtps_evidence.specs.Outcomes as outcomes_spec
 use Rattle.rtps_evidence.specs.Received as received
+use Rattle.rtps_evidence.specs.Spans as spans_spec
 use Rattle.rtps_evidence.specs.declared.explanation.Explanation.{Explanation}
 use Rattle.rtps_evidence.specs.declared.kinds.KindRuns.{KindRuns}
 use Rattle.rtps_evidence.specs.declared.kinds.LostNumbers.{LostNumbers}
@@ -205,7 +204,7 @@ one_lost_in false beside own pair all recording one other is also = is ∙ sym a
 one_lost_by : HasOneMap → (spans : Bool) (from : ℕ) (beside : other_side.Beside) (intake : intake.Intake) (pair : Pair) (one other : kinds.LostValue) → explanation.IsLostBy spans from beside intake pair one → explanation.IsLostBy spans from beside intake pair other → one ≡ other
 one_lost_by unique spans from beside intake pair one other is also =
     let same : is.span ≡ also.span = one_extent unique spans from pair intake is.span also.span is.extent also.extent in
-    one_lost_in spans beside also.span pair intake.acts _ one other (subst (λ (own : Span). kinds.IsLostIn spans beside own pair intake.acts (said.datagrams_until own.until intake.acts) one) same is.losses) also.losses
+    one_lost_in spans beside also.span pair intake.acts _ one other (subst (λ (own : Span). kinds.IsLostIn spans beside own pair intake.acts (spans_spec.heard_in own pair intake.acts) one) same is.losses) also.losses
 
 pub one_losses : HasOneMap → (spans : Bool) (from : ℕ) (beside : other_side.Beside) (intake : intake.Intake) (pairs : List Pair) (one other : List kinds.LostValue) → explanation.AreLostOf spans from beside intake pairs one → explanation.AreLostOf spans from beside intake pairs other → one ≡ other
 one_losses unique spans from beside intake [] [] [] is also = refl
@@ -227,15 +226,14 @@ losses_more spans from beside intake [] (x ∷ xs) pair one are is = absurd are
 losses_more spans from beside intake (p ∷ pairs) [] pair one are is = absurd are
 losses_more spans from beside intake (p ∷ pairs) (x ∷ xs) pair one are is = (are.0, losses_more spans from beside intake pairs xs pair one are.1 is)
 
-pub losses_rows : (spans : Bool) (from : ℕ) (beside : other_side.Beside) (intake : intake.Intake) (rows : List Row) (i : ℕ) (d : Row) (old new : List LostNumbers) (x : LostNumbers) → i < length rows → new ≡ old ++ x ∷ []
-    → explanation.AreLostOf spans from beside intake (map (λ (row : Row). row.pair) (take i rows)) (map kinds.lost_value old) → explanation.IsLostBy spans from beside intake (get_or rows i d).pair (kinds.lost_value x)
-    → explanation.AreLostOf spans from beside intake (map (λ (row : Row). row.pair) (take (i + 1) rows)) (map kinds.lost_value new)
-losses_rows spans from beside intake rows i d old new x lt is are one =
-    let pairs = ap (map (λ (row : Row). row.pair)) (take_more rows i d lt) ∙ map-append (λ (row : Row). row.pair) (take i rows) (get_or rows i d ∷ []) in
+pub losses_pairs : (spans : Bool) (from : ℕ) (beside : other_side.Beside) (intake : intake.Intake) (pairs : List Pair) (i : ℕ) (d : Pair) (old new : List LostNumbers) (x : LostNumbers) → i < length pairs → new ≡ old ++ x ∷ []
+    → explanation.AreLostOf spans from beside intake (take i pairs) (map kinds.lost_value old) → explanation.IsLostBy spans from beside intake (get_or pairs i d) (kinds.lost_value x)
+    → explanation.AreLostOf spans from beside intake (take (i + 1) pairs) (map kinds.lost_value new)
+losses_pairs spans from beside intake pairs i d old new x lt is are one =
     let losses = ap (map kinds.lost_value) is ∙ map-append kinds.lost_value old (x ∷ []) in
-    subst (λ l. explanation.AreLostOf spans from beside intake l (map kinds.lost_value new)) (sym pairs)
-    (subst (λ l. explanation.AreLostOf spans from beside intake (map (λ (row : Row). row.pair) (take i rows) ++ (get_or rows i d).pair ∷ []) l) (sym losses)
-    (losses_more spans from beside intake (map (λ (row : Row). row.pair) (take i rows)) (map kinds.lost_value old) (get_or rows i d).pair (kinds.lost_value x) are one))
+    subst (λ l. explanation.AreLostOf spans from beside intake l (map kinds.lost_value new)) (sym (take_more pairs i d lt))
+    (subst (λ l. explanation.AreLostOf spans from beside intake (take i pairs ++ get_or pairs i d ∷ []) l) (sym losses)
+    (losses_more spans from beside intake (take i pairs) (map kinds.lost_value old) (get_or pairs i d) (kinds.lost_value x) are one))
 
 -- places of rows, one more
 range_more : (a n : ℕ) → range_with_len a (n + 1) ≡ range_with_len a n ++ (a + n) ∷ []

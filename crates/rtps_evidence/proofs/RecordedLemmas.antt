@@ -35,12 +35,20 @@ pub counted_in : (writer : Guid) (acts own : List placed.PlacedValue) (stretches
     → ((n : ℕ) → stretches_spec.stretches_have stretches n ≡ has n) → count ≡ counts.count_in (stretches_spec.stretches_have stretches) from (max behind from) → count ≡ counts.count_in has first (recorded.greatest_sent writer acts + 1)
 counted_in writer acts own stretches has first from behind count own_is from_is behind_is same counted = grind (arith, nat_tests, common_steps, count_ends, count_same, greatest_is)
 
--- what is counted among the writer's acts
-pub recorded_in : (span : Span) (pair : Pair) (acts own : List placed.PlacedValue) (sent : List Stretch) (from behind : ℕ) (found : Recorded)
-    → own ≡ filter (placed.is_from pair.writer) acts → from ≡ span.from → behind ≡ recorded.greatest_sent pair.writer own + 1
-    → ((n : ℕ) → stretches_spec.stretches_have sent n ≡ amount.is_sent pair.writer pair.reader own n)
-    → found.numbers ≡ behind - from → found.recorded ≡ counts.count_in (stretches_spec.stretches_have sent) from (max behind from) → recorded.AreRecordedIn span pair acts found
-recorded_in span pair acts own sent from behind found own_is from_is behind_is sent_is numbers recorded = grind (arith, nat_tests, common_steps, greatest_is, counted_in, sent_same)
+-- what is told among the writer's acts that the reader hears
+told_among : (pair : Pair) (heard own : List placed.PlacedValue) (told : List Stretch) → own ≡ filter (placed.is_from pair.writer) heard
+    → ((n : ℕ) → stretches_spec.stretches_have told n ≡ amount.is_sent pair.writer pair.reader own n) → (n : ℕ) → stretches_spec.stretches_have told n ≡ amount.is_sent pair.writer pair.reader heard n
+told_among pair heard own told own_is told_is n = grind (arith, nat_tests, common_steps, sent_same)
+
+-- what is counted of it, up to the greatest number among the writer's acts
+pub recorded_in : (span : Span) (pair : Pair) (acts heard own own_heard : List placed.PlacedValue) (told : List Stretch) (from behind : ℕ) (found : Recorded)
+    → own ≡ filter (placed.is_from pair.writer) acts → own_heard ≡ filter (placed.is_from pair.writer) heard → from ≡ span.from → behind ≡ recorded.greatest_sent pair.writer own + 1
+    → ((n : ℕ) → stretches_spec.stretches_have told n ≡ amount.is_sent pair.writer pair.reader own_heard n)
+    → found.numbers ≡ behind - from → found.recorded ≡ counts.count_in (stretches_spec.stretches_have told) from (max behind from) → recorded.AreRecordedIn span pair acts heard found
+recorded_in span pair acts heard own own_heard told from behind found own_is heard_is from_is behind_is told_is numbers count = record {
+  numbers = numbers ∙ ap (λ n. n - from) (greatest_is pair.writer acts own behind own_is behind_is) ∙ ap (λ n. recorded.greatest_sent pair.writer acts + 1 - n) from_is;
+  recorded = counted_in pair.writer acts own told (amount.is_sent pair.writer pair.reader heard) span.from from behind found.recorded own_is from_is behind_is (told_among pair heard own_heard told heard_is told_is) count;
+}
 
 -- the greatest number that the writer sent, or the one before the first
 ends_behind : (greatest from last : ℕ) → 1 ≤ from → last ≡ max greatest (from - 1) → last + 1 ≡ max (greatest + 1) from

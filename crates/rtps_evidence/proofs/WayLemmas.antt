@@ -164,8 +164,7 @@ alone_same kind own other these those same also =
 -- ---- what a pair said stands among the acts of the two
 
 speaks_from : (pair : Pair) (at : placed_spec.PlacedValue) → way_round.is_said_to pair at ≡ true → placed_spec.is_from pair.writer at ≡ true
-speaks_from pair at e =
-    speaker_is_origin pair.writer at (and_parts (speech.is_spoken_by at.act pair.writer) (speech.is_heard_by at.act pair.reader) (and_parts (way_round.is_act_sent at.act.body) (speech.is_spoken_by at.act pair.writer && speech.is_heard_by at.act pair.reader) e).1).0
+speaks_from pair at e = speaker_is_origin pair.writer at (and_parts (speech.is_spoken_by at.act pair.writer) (speech.is_heard_by at.act pair.reader) e).0
 
 answers_from : (pair : Pair) (at : placed_spec.PlacedValue) → speech.is_answer at.act pair.reader pair.writer ≡ true → placed_spec.is_from pair.reader at ≡ true
 answers_from pair at e = search rules

@@ -25,7 +25,7 @@ use Rattle.rtps_evidence.specs.declared.in_span.InSpan.{InSpan}
 use Rattle.rtps_evidence.specs.declared.location.Location.{Location}
 use Rattle.rtps_evidence.specs.declared.span.Span.{Span}
 
--- the verdict on a pair by its numbers and datagrams in a span
+-- the verdict on a pair by its numbers and datagrams in a span, by the acts as they are sent
 abbrev pub IsVerdictIn : Span → Pair → List (List values.ActValue) → Verdict → Type 0
 IsVerdictIn span pair acts verdict = run_verdict.IsVerdictFrom span.from (speech.speech_by pair.writer pair.reader (said.datagrams_until span.until acts)) verdict
 
@@ -66,14 +66,14 @@ abbrev pub IsBeside : Bool → other_side.Beside → Span → Pair → List (Lis
 IsBeside true beside span pair all recording found = (in_span : InSpan) × (found ≡ Some in_span) × IsInSpan span beside pair all recording in_span
 IsBeside false beside span pair all recording found = found ≡ None
 
--- It is the evidence of what is taken in for a writer and a reader, by the numbers from `from` on: where rows are in spans, that of the
--- datagrams of the span, by the span's numbers, as of a recording that ends there; else that of all datagrams. Another recording and
--- times may stand beside.
+-- It is the evidence of what is taken in for a writer and a reader, by the numbers from `from` on and by what the reader hears: where rows are in
+-- spans, that of the datagrams of the span, by the span's numbers, as of a recording that ends there; else that of all datagrams. Another recording
+-- and times may stand beside.
 pub record IsEvidenceBy (spans : Bool) (from : ℕ) (beside : other_side.Beside) (pair : Pair) (intake : intake.Intake) (evidence : Evidence) : Type 0 where
   pub span : Span
   pub extent : spans_spec.IsExtent spans from pair intake span
-  pub shown : IsShown (other_side.is_there intake.acts beside.other pair) span.from (spans_spec.since_of span) pair (said.datagrams_until span.until intake.acts) evidence
-  pub in_span : IsBeside spans beside span pair intake.acts (said.datagrams_until span.until intake.acts) evidence.in_span
+  pub shown : IsShown (other_side.is_there intake.acts beside.other pair) span.from (spans_spec.since_of span) pair (spans_spec.heard_in span pair intake.acts) evidence
+  pub in_span : IsBeside spans beside span pair intake.acts (spans_spec.heard_in span pair intake.acts) evidence.in_span
 
 -- that of all datagrams
 abbrev pub IsEvidenceFrom : ℕ → Pair → intake.Intake → Evidence → Type 0

@@ -1,16 +1,17 @@
--- Why each pair of a recording has its verdict. own: the pairs and the counts are those of the report; each pair has the
+-- Why each pair of a recording has its verdict. own: the pairs and the counts are those of a report; each pair has the
 -- topic and the type of its two, and its evidence.
 use Rattle.std.specs.Prelude.{ℕ, Bool, false, ⊤, ◌≡◌, List, [], ◌∷◌, All, length, map, slice_get, Option, Some, None}
 use Rattle.std.specs.List.{range_with_len}
 use Rattle.rtps_discovery.specs.Directory as directory_spec
 use Rattle.rtps_discovery.specs.Endpoint as endpoint
+use Rattle.rtps_discovery.specs.Matching as matching
 use Rattle.rtps_discovery.specs.declared.matching.Pair.{Pair}
 use Rattle.rtps_audit.specs.Intake as intake_spec
 use Rattle.rtps_audit.specs.Report as report_spec
-use Rattle.rtps_audit.specs.Said as said
 use Rattle.rtps_audit.specs.declared.report.Report.{Report}
 use Rattle.rtps_audit.specs.declared.report.Row.{Row}
 use Rattle.rtps_audit.specs.declared.verdict.Verdict.{Verdict}
+use Rattle.rtps_fragments.specs.SampleReport as sample_report
 use Rattle.rtps_evidence.specs.Evidence as evidence
 use Rattle.rtps_evidence.specs.Grounds as grounds
 use Rattle.rtps_evidence.specs.Kinds as kinds
@@ -102,7 +103,7 @@ row_of explanation = record { pair = explanation.pair; verdict = explanation.evi
 pub record IsLostBy (spans : Bool) (from : ℕ) (beside : other_side.Beside) (intake : intake_spec.Intake) (pair : Pair) (lost : kinds.LostValue) : Type 0 where
   pub span : Span
   pub extent : spans_spec.IsExtent spans from pair intake span
-  pub losses : kinds.IsLostIn spans beside span pair intake.acts (said.datagrams_until span.until intake.acts) lost
+  pub losses : kinds.IsLostIn spans beside span pair intake.acts (spans_spec.heard_in span pair intake.acts) lost
 
 -- those of the rows of these pairs, one after another
 abbrev pub AreLostOf : Bool → ℕ → other_side.Beside → intake_spec.Intake → List Pair → List kinds.LostValue → Type 0
@@ -131,24 +132,25 @@ pub record AreExplained (spans : Bool) (from : ℕ) (beside : other_side.Beside)
   pub named : All (IsNamed directory.endpoints) rows
   pub shown : All (λ row. evidence.IsEvidenceBy spans from beside row.pair intake row.evidence) rows
 
--- The rows are of the report's pairs by the numbers from `from` on, each with its names and its evidence, and the counts are
--- the report's. Where rows are not in spans, they are the report's. Another recording and times may stand beside.
+-- The rows are of the reliable pairs of all that the intake announces, by writer and then by reader, and of no others, each with its names and
+-- its evidence by the numbers from `from` on. The counts are those of a report. Another recording and times may stand beside.
 pub record IsExplainedBy (spans : Bool) (from : ℕ) (beside : other_side.Beside) (intake : intake_spec.Intake) (explained : Explained) : Type 0 where
-  pub report : Report
-  pub reports : report_spec.IsReportBy from intake report
-  pub pairs : map (λ row. row.pair) explained.rows.items ≡ map (λ row. row.pair) report.rows.items
-  pub rows : spans ≡ false → map row_of explained.rows.items ≡ report.rows.items
-  pub places : map (λ row. row.place) explained.rows.items ≡ range_with_len 0 (length explained.rows.items)
-  pub losses : AreLostOf spans from beside intake (map (λ row. row.pair) report.rows.items) (map kinds.lost_value explained.lost.items)
-  pub counts : explained.counts ≡ report.counts
   pub directory : directory_spec.DirectoryValue
   pub is_map : directory_spec.IsMapOf (intake_spec.acts_together intake.announcing) directory
-  pub named : All (IsNamed directory.endpoints) explained.rows.items
-  pub shown : All (λ row. evidence.IsEvidenceBy spans from beside row.pair intake row.evidence) explained.rows.items
+  pub pairs : List Pair
+  pub are_pairs : pairs ≡ matching.reliable_pairs (matching.matches_among (directory_spec.settled_in directory.endpoints))
+  pub rows : AreExplained spans from beside intake pairs explained.rows.items (map kinds.lost_value explained.lost.items)
+  pub counts : explained.counts ≡ report_spec.counts_of intake (length (directory_spec.unsettled_in directory.endpoints))
 
 -- that of a recording alone, which is the octets of its datagrams in the order of sending
 abbrev pub IsExplainedFrom : Bool → ℕ → List (List ℕ) → Explained → Type 0
 IsExplainedFrom spans from recording explained = IsExplainedBy spans from other_side.alone (intake_spec.intake_of recording) explained
+
+-- where rows are in no span, they are those of the report by what each reader hears, and so are the counts
+abbrev pub RowsAreReported : Type 0
+RowsAreReported =
+    (from : ℕ) (beside : other_side.Beside) (intake : intake_spec.Intake) (explained : Explained) (report : Report) → IsExplainedBy false from beside intake explained → sample_report.IsReportHeard from intake report
+    → (map row_of explained.rows.items ≡ report.rows.items) × (explained.counts ≡ report.counts)
 
 -- what is taken in is explained in one way, beside the same other recording and the same times: the same rows, and the same counts. So is a recording
 abbrev pub HasOneExplanation : Type 0

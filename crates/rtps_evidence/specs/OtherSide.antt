@@ -9,6 +9,7 @@ use Rattle.rtps_audit.specs.Index as index
 use Rattle.rtps_audit.specs.Intake as intake
 use Rattle.rtps_audit.specs.Placed as placed
 use Rattle.rtps_coverage.specs.Stretches as stretches
+use Rattle.rtps_fragments.specs.Hearing as hearing
 use Rattle.rtps_evidence.specs.Amount as amount
 use Rattle.rtps_coverage.specs.declared.stretch.Stretch.{Stretch}
 use Rattle.rtps_evidence.specs.declared.other_side.OtherSide.{OtherSide}
@@ -75,7 +76,7 @@ is_held all other pair = holds_by (way_against all other pair)
 -- n is there for a pair that is held: in the other recording its reader hears a payload for n from its writer
 abbrev pub is_there : List (List values.ActValue) → Option OtherRecording → Pair → ℕ → Bool
 is_there all None pair n = false
-is_there all (Some other) pair n = is_held all (Some other) pair && amount.is_sent pair.writer pair.reader (placed.placed_in other.intake.acts) n
+is_there all (Some other) pair n = is_held all (Some other) pair && amount.is_sent pair.writer pair.reader (placed.placed_in (hearing.heard_by pair.reader other.intake.acts)) n
 
 -- which way round the two are, whether the pair is held, and the numbers that are there
 pub record AreThere (all : List (List values.ActValue)) (other : Option OtherRecording) (pair : Pair) (way : Option Way) (held : Bool) (there : List Stretch) : Type 0 where

@@ -28,17 +28,17 @@ number_sent writer placed = if speech.is_spoken_by placed.act writer then unwrap
 abbrev pub greatest_sent : Guid → List placed.PlacedValue → ℕ
 greatest_sent writer acts = delivery.greatest (map (number_sent writer) acts)
 
--- of the numbers from the first one of a span on, up to the greatest that the writer sent: how many there are, and of how many the
--- reader hears a payload
-pub record AreRecordedIn (span : Span) (pair : Pair) (acts : List placed.PlacedValue) (found : Recorded) : Type 0 where
-  pub numbers : found.numbers ≡ greatest_sent pair.writer acts + 1 - span.from
-  pub recorded : found.recorded ≡ counts.count_in (amount.is_sent pair.writer pair.reader acts) span.from (greatest_sent pair.writer acts + 1)
+-- of the numbers from the first one of a span on, up to the greatest that the writer sent by these acts: how many there are, and of how many the
+-- reader hears a payload, where this is what it hears of them
+pub record AreRecordedIn (span : Span) (pair : Pair) (sent heard : List placed.PlacedValue) (found : Recorded) : Type 0 where
+  pub numbers : found.numbers ≡ greatest_sent pair.writer sent + 1 - span.from
+  pub recorded : found.recorded ≡ counts.count_in (amount.is_sent pair.writer pair.reader heard) span.from (greatest_sent pair.writer sent + 1)
 
 -- the same of what a row of the two would be by
 pub record IsRecordedBy (spans : Bool) (from : ℕ) (pair : Pair) (intake : intake.Intake) (found : Recorded) : Type 0 where
   pub span : Span
   pub is_extent : spans_spec.IsExtent spans from pair intake span
-  pub are_recorded : AreRecordedIn span pair (placed.placed_in (audit_said.datagrams_until span.until intake.acts)) found
+  pub are_recorded : AreRecordedIn span pair (placed.placed_in (audit_said.datagrams_until span.until intake.acts)) (placed.placed_in (spans_spec.heard_in span pair intake.acts)) found
 
 -- of the numbers from lo on and below hi: how many are there, and the first ten that are not
 pub record IsArrivedAmong (there : ℕ → Bool) (lo hi : ℕ) (found : ArrivedNumbers) : Type 0 where

@@ -12,7 +12,10 @@ use Rattle.rtps_discovery.specs.declared.matching.Pair.{Pair}
 use Rattle.rtps_audit.specs.Delivery as delivery
 use Rattle.rtps_audit.specs.Intake as intake_spec
 use Rattle.rtps_audit.specs.Placed as placed
+use Rattle.rtps_audit.specs.Said as audit_said
+use Rattle.rtps_fragments.specs.Hearing as hearing
 use Rattle.rtps_receiver.specs.Said as said
+use Rattle.rtps_receiver.specs.Values as values
 use Rattle.rtps_audit.specs.declared.answer.Answer.{Answer}
 use Rattle.rtps_evidence.specs.Locations as locations
 use Rattle.rtps_evidence.specs.Missed as missed
@@ -164,3 +167,7 @@ pub record IsSpan (from : ℕ) (pair : Pair) (intake : intake_spec.Intake) (span
 abbrev pub IsExtent : Bool → ℕ → Pair → intake_spec.Intake → Span → Type 0
 IsExtent true from pair intake span = IsSpan from pair intake span
 IsExtent false from pair intake span = IsWhole from pair intake span
+
+-- the acts that a row is by: what its reader hears of the datagrams of the span. What is sent behind them tells it nothing
+abbrev pub heard_in : Span → Pair → List (List values.ActValue) → List (List values.ActValue)
+heard_in span pair acts = hearing.heard_by pair.reader (audit_said.datagrams_until span.until acts)

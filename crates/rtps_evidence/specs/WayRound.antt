@@ -3,7 +3,7 @@
 -- own: what a writer says stands in a recording of its side wherever it was lost, and an answer stands in one of the reader's side. So a
 -- writer's act that the other recording alone has, or an answer that the first one alone has, tells that the two were swapped. Two
 -- recordings never begin and end together: what stands before the fifth act that both have, or behind the fifth from the end, tells nothing.
-use Rattle.std.specs.Prelude.{ℕ, Bool, true, false, ◌+◌, ◌*◌, ◌≡◌, ◌==◌, ◌&&◌, ◌||◌, nat_le, nat_lt, not, filter, is_none, length, List, Option, Some, None}
+use Rattle.std.specs.Prelude.{ℕ, Bool, true, false, ◌+◌, ◌*◌, ◌≡◌, ◌==◌, ◌&&◌, ◌||◌, nat_le, nat_lt, not, filter, length, List, Option, Some, None}
 use Rattle.std.specs.List.{list_any}
 use Rattle.std.specs.List.Sorted.{IsNonDecreasingBy}
 use Rattle.std.specs.Ordering.{int_eq}
@@ -128,18 +128,9 @@ is_same one other = is_same_act one.act other.act
 
 -- ---- what a pair said
 
--- An act of a datagram. own: what fragments are put together to is told behind the last of them, and no datagram has it.
-abbrev pub is_act_sent : receiver_values.ActBodyValue → Bool
-is_act_sent (receiver_values.ActBodyValue.DataFrag value) = is_none value.told
-is_act_sent (receiver_values.ActBodyValue.Data value) = true
-is_act_sent (receiver_values.ActBodyValue.Heartbeat value) = true
-is_act_sent (receiver_values.ActBodyValue.AckNack value) = true
-is_act_sent (receiver_values.ActBodyValue.Gap value) = true
-is_act_sent (receiver_values.ActBodyValue.NackFrag value) = true
-
 -- the writer says it and the reader hears it
 abbrev pub is_said_to : Pair → placed.PlacedValue → Bool
-is_said_to pair at = is_act_sent at.act.body && (speech.is_spoken_by at.act pair.writer && speech.is_heard_by at.act pair.reader)
+is_said_to pair at = speech.is_spoken_by at.act pair.writer && speech.is_heard_by at.act pair.reader
 
 -- the writer says it and the reader hears it, or the reader answers the writer
 abbrev pub is_between : Pair → placed.PlacedValue → Bool

@@ -1,20 +1,22 @@
-ghost use Rattle.std.specs.Prelude.{ℕ, Bool, ◌≡◌, IfOk, List};
+ghost use Rattle.std.specs.Prelude.{ℕ, Bool, false, ◌≡◌, map, IfOk, IfSome, List};
 ghost use Rattle.rtps_receiver.specs.Values as values;
 ghost use Rattle.rtps_audit.specs.Index as index_spec;
 ghost use Rattle.rtps_audit.specs.Intake as intake;
+ghost use Rattle.rtps_audit.specs.Placed as placed;
 ghost use Rattle.rtps_audit.specs.RunVerdict as run_verdict;
 ghost use Rattle.rtps_audit.specs.Said as said;
 ghost use Rattle.rtps_audit.specs.Speech as speech;
 ghost use Rattle.rtps_coverage.specs.Stretches as stretches;
+ghost use Rattle.rtps_fragments.specs.Hearing as hearing;
 
 use crate::acknowledgement::{Claim, find_acknowledgement};
-use crate::exchange::Exchange;
+use crate::exchange::{Exchange, Extent};
 use crate::excused::missed_of;
 use crate::first_missed::FirstMissed;
-use crate::grounds::{Grounds, grounds_of};
+use crate::grounds::{Grounds, grounds_kept, grounds_of};
 use crate::heard::Heard;
 use crate::in_span::InSpan;
-use crate::judgement::Judgement;
+use crate::judgement::{Judgement, verdict_of};
 use crate::kinds::LostNumbers;
 use crate::last_announcement::Announcement;
 use crate::ledger::Ledger;
@@ -25,9 +27,12 @@ use crate::outcome::Unreceived;
 use crate::received::count_received;
 use crate::spanned::Spanned;
 use crate::times::Times;
-use rtps_audit::{Index, Row, Said, Verdict};
+use bumpalo::Bump;
+use rtps_audit::{Index, Said, Verdict};
 use rtps_coverage::rising::rising;
 use rtps_discovery::Pair;
+use rtps_fragments::laws::{pairs_are_heard_without_fragments, verdicts_stay_without_fragments};
+use rtps_fragments::{have_fragments, heard_said};
 use rtps_ids::{Memory, SeqNum};
 use std::alloc::Global;
 
@@ -70,31 +75,63 @@ pub(crate) struct Found<'a> {
     pub(crate) lost: LostNumbers,
 }
 
+impl<'p> Found<'p> {
+    ghost use Rattle.rtps_evidence.specs.Explanation as explanation;
+
+    /// The same, with the octets of payloads in an arena.
+    fn kept<'k>(self, arena: &'k Bump) -> Result<Found<'k>, Memory>
+        ensures { IfOk result (λ kept. (explanation.evidence_value kept.evidence ≡ explanation.evidence_value self.entry.evidence) × (kept.lost ≡ self.entry.lost)) }
+    {
+        let Found { evidence, lost } = self;
+        let evidence = Evidence {
+            verdict: evidence.verdict,
+            announcement: evidence.announcement,
+            acknowledgement: evidence.acknowledgement,
+            payloads: evidence.payloads,
+            gone: evidence.gone,
+            untold: evidence.untold,
+            received: evidence.received,
+            not_received: evidence.not_received,
+            missed: evidence.missed,
+            first_missed: evidence.first_missed,
+            grounds: grounds_kept(&evidence.grounds, arena)?,
+            in_span: evidence.in_span,
+        };
+        Ok(Found { evidence, lost })
+    }
+}
+
 impl<'a> Evidence<'a> {
     ghost use Rattle.rtps_evidence.specs.Evidence as evidence_spec;
     ghost use Rattle.rtps_evidence.specs.Kinds as kinds;
     ghost use Rattle.rtps_evidence.specs.OtherSide as other_side;
     ghost use Rattle.rtps_evidence.specs.Spans as spans;
 
-    /// The evidence of an index's recording for a writer and a reader, any two GUIDs, by the writer's numbers from `from` on:
-    /// the verdict is that of [`Index::judge_from`]. `Memory` is answered where what is kept of the two cannot grow.
+    /// The evidence of an index's recording for a writer and a reader, any two GUIDs, by the writer's numbers from `from` on, and by what the
+    /// reader hears. Payloads of a conflict that the reader put together have their octets in the arena. `Memory` is answered where what is kept
+    /// of the two cannot grow.
     pub fn of_from(
         alloc: Global,
         index: &Index<'a>,
+        arena: &'a Bump,
         pair: Pair,
         from: SeqNum,
     ) -> Result<Evidence<'a>, Memory>
         ensures { (intake : intake.Intake) → index_spec.IsIndexBy intake index.now → IfOk result (evidence_spec.IsEvidenceFrom from pair intake) }
     {
-        let verdict = index.judge_from(pair, from)?;
-        let judgement = Judgement::of(index, Row { pair, verdict }, from, false)?;
         let times = Times::none(alloc);
         let sides = Sides {
             index,
             other: None,
             times: &times,
+            arena,
         };
-        let found = Evidence::of_judged(alloc, &sides, &judgement)?;
+        let extent = Extent {
+            from,
+            in_spans: false,
+        };
+        let judgement = Judgement::of(index, pair, &[], &extent);
+        let found = Evidence::of_judged(alloc, &sides, judgement)?;
         Ok(found.evidence)
     }
 
@@ -102,16 +139,15 @@ impl<'a> Evidence<'a> {
     pub(crate) fn of_judged(
         alloc: Global,
         sides: &Sides<'_, 'a, '_, '_>,
-        judgement: &Judgement,
+        judgement: Judgement,
     ) -> Result<Found<'a>, Memory>
-        ensures judged { IfOk result (λ found. found.evidence.verdict ≡ judgement.now.verdict) }
         ensures shown { (intake : intake.Intake) (beside : other_side.Beside) → other_side.AreSides intake beside sides.now
-            → evidence_spec.IsVerdictIn judgement.now.span judgement.now.pair intake.acts judgement.now.verdict
-            → IfOk result (λ found. evidence_spec.IsShown (other_side.is_there intake.acts beside.other judgement.now.pair) judgement.now.span.from (spans.since_of judgement.now.span) judgement.now.pair (said.datagrams_until judgement.now.span.until intake.acts) found.evidence) }
+            → IfSome judgement.known (evidence_spec.IsVerdictIn judgement.span judgement.pair intake.acts)
+            → IfOk result (λ found. evidence_spec.IsShown (other_side.is_there intake.acts beside.other judgement.pair) judgement.span.from (spans.since_of judgement.span) judgement.pair (spans.heard_in judgement.span judgement.pair intake.acts) found.evidence) }
         ensures beside { (intake : intake.Intake) (beside : other_side.Beside) → other_side.AreSides intake beside sides.now
-            → evidence_spec.IsVerdictIn judgement.now.span judgement.now.pair intake.acts judgement.now.verdict
-            → IfOk result (λ found. evidence_spec.IsBeside judgement.now.in_spans beside judgement.now.span judgement.now.pair intake.acts (said.datagrams_until judgement.now.span.until intake.acts) found.evidence.in_span
-            × kinds.IsLostIn judgement.now.in_spans beside judgement.now.span judgement.now.pair intake.acts (said.datagrams_until judgement.now.span.until intake.acts) (kinds.lost_value found.lost)) }
+            → IfSome judgement.known (evidence_spec.IsVerdictIn judgement.span judgement.pair intake.acts)
+            → IfOk result (λ found. evidence_spec.IsBeside judgement.in_spans beside judgement.span judgement.pair intake.acts (spans.heard_in judgement.span judgement.pair intake.acts) found.evidence.in_span
+            × kinds.IsLostIn judgement.in_spans beside judgement.span judgement.pair intake.acts (spans.heard_in judgement.span judgement.pair intake.acts) (kinds.lost_value found.lost)) }
     {
         let arrivals = Arrivals::of(alloc, sides, judgement.pair)?;
         let exchange = Exchange {
@@ -124,8 +160,79 @@ impl<'a> Evidence<'a> {
             there: &arrivals.numbers,
             times: sides.times,
         };
-        let found = Evidence::of_exchange(alloc, &exchange, judgement.verdict)?;
+        let found = Evidence::of_said(alloc, sides.arena, &exchange, judgement.known)?;
         Ok(found)
+    }
+
+    /// The evidence for what a pair said as it is sent, where the verdict by that may be known. `Memory` as of [`Evidence::of_from`].
+    fn of_said(
+        alloc: Global,
+        arena: &'a Bump,
+        exchange: &Exchange<'_, 'a>,
+        known: Option<Verdict>,
+    ) -> Result<Found<'a>, Memory>
+        ensures shown { (recording : List (List values.ActValue)) (there : ℕ → Bool) → said.IsSaid exchange.now.pair recording exchange.now.said
+            → IfSome known (run_verdict.IsVerdictFrom exchange.now.span.from (speech.speech_by exchange.now.pair.writer exchange.now.pair.reader recording))
+            → ((n : ℕ) → stretches.stretches_have exchange.now.there.now n ≡ there n)
+            → IfOk result (λ found. evidence_spec.IsShown there exchange.now.span.from (spans.since_of exchange.now.span) exchange.now.pair (hearing.heard_by exchange.now.pair.reader recording) found.evidence) }
+        ensures beside { (all recording : List (List values.ActValue)) (beside : other_side.Beside) → said.IsSaid exchange.now.pair recording exchange.now.said
+            → IfSome known (run_verdict.IsVerdictFrom exchange.now.span.from (speech.speech_by exchange.now.pair.writer exchange.now.pair.reader recording))
+            → other_side.AreThere all beside.other exchange.now.pair exchange.now.way exchange.now.is_held exchange.now.there.now → exchange.now.times.now.of_datagrams ≡ beside.times
+            → IfOk result (λ found. evidence_spec.IsBeside exchange.now.in_spans beside exchange.now.span exchange.now.pair all (hearing.heard_by exchange.now.pair.reader recording) found.evidence.in_span
+            × kinds.IsLostIn exchange.now.in_spans beside exchange.now.span exchange.now.pair all (hearing.heard_by exchange.now.pair.reader recording) (kinds.lost_value found.lost)) }
+    {
+        if have_fragments(exchange.said.acts) || have_fragments(exchange.said.asks) {
+            Evidence::of_fragments(alloc, arena, exchange)
+        } else {
+            Evidence::of_sent(alloc, exchange, known)
+        }
+    }
+
+    /// That where neither of the pair sends fragments: its reader hears what is sent.
+    fn of_sent(
+        alloc: Global,
+        exchange: &Exchange<'_, 'a>,
+        known: Option<Verdict>,
+    ) -> Result<Found<'a>, Memory>
+        requires acts { hearing.have_fragments (map placed.placed_value exchange.now.said.acts.now) ≡ false }
+        requires asks { hearing.have_fragments (map placed.placed_value exchange.now.said.asks.now) ≡ false }
+        ensures shown { (recording : List (List values.ActValue)) (there : ℕ → Bool) → said.IsSaid exchange.now.pair recording exchange.now.said
+            → IfSome known (run_verdict.IsVerdictFrom exchange.now.span.from (speech.speech_by exchange.now.pair.writer exchange.now.pair.reader recording))
+            → ((n : ℕ) → stretches.stretches_have exchange.now.there.now n ≡ there n)
+            → IfOk result (λ found. evidence_spec.IsShown there exchange.now.span.from (spans.since_of exchange.now.span) exchange.now.pair (hearing.heard_by exchange.now.pair.reader recording) found.evidence) }
+        ensures beside { (all recording : List (List values.ActValue)) (beside : other_side.Beside) → said.IsSaid exchange.now.pair recording exchange.now.said
+            → IfSome known (run_verdict.IsVerdictFrom exchange.now.span.from (speech.speech_by exchange.now.pair.writer exchange.now.pair.reader recording))
+            → other_side.AreThere all beside.other exchange.now.pair exchange.now.way exchange.now.is_held exchange.now.there.now → exchange.now.times.now.of_datagrams ≡ beside.times
+            → IfOk result (λ found. evidence_spec.IsBeside exchange.now.in_spans beside exchange.now.span exchange.now.pair all (hearing.heard_by exchange.now.pair.reader recording) found.evidence.in_span
+            × kinds.IsLostIn exchange.now.in_spans beside exchange.now.span exchange.now.pair all (hearing.heard_by exchange.now.pair.reader recording) (kinds.lost_value found.lost)) }
+    {
+        // What is sent without fragments is heard as it is, and judged alike.
+        pairs_are_heard_without_fragments();
+        verdicts_stay_without_fragments();
+        let verdict = verdict_of(alloc, exchange, known)?;
+        Evidence::of_exchange(alloc, exchange, verdict)
+    }
+
+    /// That where one of the pair sends fragments: the samples that its reader puts together are kept while its evidence is found.
+    fn of_fragments(
+        alloc: Global,
+        arena: &'a Bump,
+        exchange: &Exchange<'_, 'a>,
+    ) -> Result<Found<'a>, Memory>
+        ensures shown { (recording : List (List values.ActValue)) (there : ℕ → Bool) → said.IsSaid exchange.now.pair recording exchange.now.said
+            → ((n : ℕ) → stretches.stretches_have exchange.now.there.now n ≡ there n)
+            → IfOk result (λ found. evidence_spec.IsShown there exchange.now.span.from (spans.since_of exchange.now.span) exchange.now.pair (hearing.heard_by exchange.now.pair.reader recording) found.evidence) }
+        ensures beside { (all recording : List (List values.ActValue)) (beside : other_side.Beside) → said.IsSaid exchange.now.pair recording exchange.now.said
+            → other_side.AreThere all beside.other exchange.now.pair exchange.now.way exchange.now.is_held exchange.now.there.now → exchange.now.times.now.of_datagrams ≡ beside.times
+            → IfOk result (λ found. evidence_spec.IsBeside exchange.now.in_spans beside exchange.now.span exchange.now.pair all (hearing.heard_by exchange.now.pair.reader recording) found.evidence.in_span
+            × kinds.IsLostIn exchange.now.in_spans beside exchange.now.span exchange.now.pair all (hearing.heard_by exchange.now.pair.reader recording) (kinds.lost_value found.lost)) }
+    {
+        let told = Bump::new(alloc);
+        let said = heard_said(alloc, &told, exchange.said, exchange.pair)?;
+        let verdict = said.judge_from(alloc, exchange.pair, exchange.span.from)?;
+        let heard = Exchange { said, ..*exchange };
+        let found = Evidence::of_exchange(alloc, &heard, verdict)?;
+        found.kept(arena)
     }
 
     /// The evidence for what a pair said. `Memory` as of [`Evidence::of_from`].
@@ -185,11 +292,15 @@ impl<'a> Evidence<'a> {
         })
     }
 
-    /// The evidence of an index's recording for a writer and a reader, any two GUIDs, by all numbers. `Memory` as of
-    /// [`Evidence::of_from`].
-    pub fn of(alloc: Global, index: &Index<'a>, pair: Pair) -> Result<Evidence<'a>, Memory>
+    /// The evidence of an index's recording for a writer and a reader, any two GUIDs, by all numbers, as [`Evidence::of_from`] finds it.
+    pub fn of(
+        alloc: Global,
+        index: &Index<'a>,
+        arena: &'a Bump,
+        pair: Pair,
+    ) -> Result<Evidence<'a>, Memory>
         ensures { (intake : intake.Intake) → index_spec.IsIndexBy intake index.now → IfOk result (evidence_spec.IsEvidence pair intake) }
     {
-        Evidence::of_from(alloc, index, pair, SeqNum::first())
+        Evidence::of_from(alloc, index, arena, pair, SeqNum::first())
     }
 }

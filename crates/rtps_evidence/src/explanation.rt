@@ -1,22 +1,20 @@
-ghost use Rattle.std.specs.Prelude.{false, ◌≡◌, length, map, All, IfOk};
-ghost use Rattle.std.specs.List.{range_with_len};
+ghost use Rattle.std.specs.Prelude.{◌≡◌, map, All, IfOk};
 ghost use Rattle.rtps_discovery.specs.Directory as directory_spec;
-ghost use Rattle.rtps_audit.specs.Index as index;
 ghost use Rattle.rtps_audit.specs.Intake as intake;
 ghost use Rattle.rtps_audit.specs.Report as report;
-ghost use Rattle.rtps_evidence.specs.Evidence as evidence_spec;
 ghost use Rattle.rtps_evidence.specs.Explanation as explanation;
 ghost use Rattle.rtps_evidence.specs.Kinds as kinds;
 ghost use Rattle.rtps_evidence.specs.OtherSide as other_side;
 
 use crate::evidence::Evidence;
 use crate::exchange::Extent;
-use crate::judged_pairs::judged_rows;
 use crate::judgement::Judgement;
 use crate::kinds::LostNumbers;
 use crate::other_side::Sides;
 use crate::times::Times;
+use bumpalo::Bump;
 use rtps_audit::{Counts, Index, Row, Watch};
+use rtps_discovery::laws::one_map;
 use rtps_discovery::{Directory, Pair};
 use rtps_ids::{Guid, Memory};
 use std::alloc::Global;
@@ -62,54 +60,32 @@ fn names_of<'a>(directory: &Directory<'a>, guid: Guid) -> (&'a [u8], &'a [u8])
     }
 }
 
-/// Explains each of these rows of a report by the numbers of an extent, and tells how far it is.
-fn explain_rows<'a, P: Watch>(
-    alloc: Global,
-    sides: &Sides<'_, 'a, '_, '_>,
+/// A pair, with its names and its evidence, in its place among the rows.
+fn explanation_of<'a>(
     directory: &Directory<'a>,
-    rows: &[Row],
-    extent: Extent,
-    watch: &mut P,
-) -> Result<ExplainedRows<'a>, Memory>
-    ensures pairs { IfOk result (λ explained. map (λ row. row.pair) explained.rows.items ≡ map (λ row. row.pair) rows.now) }
-    ensures places { IfOk result (λ explained. map (λ row. row.place) explained.rows.items ≡ range_with_len 0 (length explained.rows.items)) }
-    ensures rows { (intake : intake.Intake) → index.IsIndexBy intake sides.now.index.now → extent.in_spans ≡ false → IfOk result (λ explained. map explanation.row_of explained.rows.items ≡ rows.now) }
-    ensures named { IfOk result (λ explained. All (explanation.IsNamed directory.now.endpoints) explained.rows.items) }
-    ensures shown { (intake : intake.Intake) (beside : other_side.Beside) → other_side.AreSides intake beside sides.now
-        → All (report.IsJudgedFrom extent.from intake.acts) rows.now
-        → IfOk result (λ explained. All (λ row. evidence_spec.IsEvidenceBy extent.in_spans extent.from beside row.pair intake row.evidence) explained.rows.items) }
-    ensures lost { (intake : intake.Intake) (beside : other_side.Beside) → other_side.AreSides intake beside sides.now
-        → All (report.IsJudgedFrom extent.from intake.acts) rows.now
-        → IfOk result (λ explained. explanation.AreLostOf extent.in_spans extent.from beside intake (map (λ row. row.pair) rows.now) (map kinds.lost_value explained.lost.items)) }
+    pair: Pair,
+    evidence: Evidence<'a>,
+    place: usize,
+) -> Explanation<'a>
+    ensures pair { result.pair ≡ pair }
+    ensures evidence { result.evidence ≡ evidence.entry }
+    ensures place { result.place ≡ place }
+    ensures named { explanation.IsNamed directory.now.endpoints result }
 {
-    let index = sides.index;
-    let from = extent.from;
-    let in_spans = extent.in_spans;
-    let mut explained = Vec::with_capacity(alloc, rows.len())?;
-    let mut lost = Vec::with_capacity(alloc, rows.len())?;
-    for row in rows {
-        let (topic, type_name) = names_of(directory, row.pair.writer);
-        let judgement = Judgement::of(index, *row, from, in_spans)?;
-        let found = Evidence::of_judged(alloc, sides, &judgement)?;
-        explained.push(Explanation {
-            pair: row.pair,
-            topic,
-            type_name,
-            evidence: found.evidence,
-            place: explained.len(),
-        })?;
-        lost.push(found.lost)?;
-        watch.explained(explained.len(), rows.len());
+    let (topic, type_name) = names_of(directory, pair.writer);
+    Explanation {
+        pair,
+        topic,
+        type_name,
+        evidence,
+        place,
     }
-    Ok(ExplainedRows {
-        rows: explained,
-        lost,
-    })
 }
 
 /// Explains each of these pairs, of whatever writers and readers, in their order, by the numbers of an extent, as [`explain_index`] explains
-/// those of its report. `known` are rows of a report by the same numbers: what they say need not be found again. They are looked through
-/// fastest where they are in order. It tells how far it is. `Memory` is answered where what is kept cannot grow.
+/// those of its report. `known` are rows by the same numbers and the acts as they are sent: what they say of pairs without fragments need not be
+/// found again. They are looked through fastest where they are in order. It tells how far it is. `Memory` is answered where what is kept cannot
+/// grow.
 pub fn explain_pairs<'a, P: Watch>(
     alloc: Global,
     sides: &Sides<'_, 'a, '_, '_>,
@@ -122,9 +98,30 @@ pub fn explain_pairs<'a, P: Watch>(
         → All (report.IsJudgedFrom extent.from intake.acts) known.now
         → IfOk result (λ found. explanation.AreExplained extent.in_spans extent.from beside intake pairs.now found.rows.items (map kinds.lost_value found.lost.items)) }
 {
-    let rows = judged_rows(alloc, sides.index, pairs, known, extent.from)?;
-    let explained = explain_rows(alloc, sides, sides.index.directory(), &rows, extent, watch)?;
-    Ok(explained)
+    // What an index took in announces one directory.
+    one_map();
+    let directory = sides.index.directory();
+    let mut rows = Vec::with_capacity(alloc, pairs.len())?;
+    let mut lost = Vec::with_capacity(alloc, pairs.len())?;
+    for pair in pairs {
+        let judgement = Judgement::of(sides.index, *pair, known, &extent);
+        let found = Evidence::of_judged(alloc, sides, judgement)?;
+        rows.push(explanation_of(directory, *pair, found.evidence, rows.len()))?;
+        lost.push(found.lost)?;
+        watch.explained(rows.len(), pairs.len());
+    }
+    Ok(ExplainedRows { rows, lost })
+}
+
+/// The pairs of rows.
+fn pairs_of(alloc: Global, rows: &[Row]) -> Result<Vec<Pair>, Memory>
+    ensures { IfOk result (λ pairs. pairs.items ≡ map (λ row. row.pair) rows.now) }
+{
+    let mut pairs = Vec::with_capacity(alloc, rows.len())?;
+    for row in rows {
+        pairs.push(row.pair)?;
+    }
+    Ok(pairs)
 }
 
 /// Reports on what an index took in, and says of each row why it has its verdict. The report is by the extent's numbers; where rows
@@ -139,9 +136,9 @@ pub fn explain_index<'a, P: Watch>(
     ensures { (intake : intake.Intake) (beside : other_side.Beside) → other_side.AreSides intake beside sides.now
         → IfOk result (explanation.IsExplainedBy extent.in_spans extent.from beside intake) }
 {
-    let index = sides.index;
-    let report = index.report_from(extent.from, watch)?;
-    let found = explain_rows(alloc, sides, index.directory(), &report.rows, extent, watch)?;
+    let report = sides.index.report_from(extent.from, watch)?;
+    let pairs = pairs_of(alloc, &report.rows)?;
+    let found = explain_pairs(alloc, sides, &pairs, &report.rows, extent, watch)?;
     Ok(Explained {
         rows: found.rows,
         lost: found.lost,
@@ -149,9 +146,10 @@ pub fn explain_index<'a, P: Watch>(
     })
 }
 
-/// The same of a recording alone, any datagrams in the order of sending.
+/// The same of a recording alone, any datagrams in the order of sending, whose fragments are skipped.
 pub fn explain_from<'a, P: Watch>(
     alloc: Global,
+    arena: &'a Bump,
     recording: &[&'a [u8]],
     extent: Extent,
     watch: &mut P,
@@ -164,6 +162,7 @@ pub fn explain_from<'a, P: Watch>(
         index: &index,
         other: None,
         times: &times,
+        arena,
     };
     let explained = explain_index(alloc, &sides, extent, watch)?;
     Ok(explained)

@@ -1,9 +1,9 @@
-ghost use Rattle.std.specs.Prelude.{◌≡◌, ◌<◌, ◌^◌, filter, map, List};
+ghost use Rattle.std.specs.Prelude.{◌≡◌, ◌<◌, ◌^◌, filter, map, IfOk, List};
 ghost use Rattle.rtps_receiver.specs.Values as values;
 ghost use Rattle.rtps_audit.specs.Placed as placed;
 ghost use Rattle.rtps_audit.specs.Said as audit_said;
 ghost use Rattle.rtps_receiver.specs.Said as said;
-ghost use Rattle.rtps_evidence.specs.Grounds as grounds;
+ghost use Rattle.rtps_evidence.specs.Grounds as grounds_spec;
 ghost use Rattle.rtps_evidence.specs.Locations as locations;
 ghost use Rattle.rtps_evidence.specs.Questions as questions_spec;
 
@@ -11,10 +11,12 @@ use crate::acknowledgement::{Claim, find_claim};
 use crate::exchange::Exchange;
 use crate::location::Location;
 use crate::questions::Questions;
-use crate::sent_payload::{Sent, first_sent, other_sent};
+use crate::sent_payload::{Sent, first_sent, other_sent, sent_kept};
 use crate::teller::{Teller, find_teller};
+use bumpalo::Bump;
 use rtps_audit::{Placed, Verdict};
 use rtps_discovery::Pair;
+use rtps_ids::Memory;
 
 /// What a verdict rests on, beside what all rows have.
 #[derive(Clone, Copy)]
@@ -45,6 +47,34 @@ pub enum Grounds<'a> {
     },
 }
 
+/// What a verdict rests on, with the octets of payloads in an arena.
+pub(crate) fn grounds_kept<'k>(
+    grounds: &Grounds<'_>,
+    arena: &'k Bump,
+) -> Result<Grounds<'k>, Memory>
+    ensures { IfOk result (λ kept. grounds_spec.grounds_value kept ≡ grounds_spec.grounds_value grounds.now) }
+{
+    match *grounds {
+        Grounds::Complete => Ok(Grounds::Complete),
+        Grounds::Open {
+            teller,
+            asked_since,
+            first_asked,
+            last_asked,
+        } => Ok(Grounds::Open {
+            teller,
+            asked_since,
+            first_asked,
+            last_asked,
+        }),
+        Grounds::Conflict { first, other } => Ok(Grounds::Conflict {
+            first: sent_kept(first, arena)?,
+            other: sent_kept(other, arena)?,
+        }),
+        Grounds::Unfounded { teller, claim } => Ok(Grounds::Unfounded { teller, claim }),
+    }
+}
+
 /// A number of a verdict, or 0 for one below it.
 fn natural(number: i64) -> u64
     ensures value { result ≡ said.natural number }
@@ -55,7 +85,7 @@ fn natural(number: i64) -> u64
 
 /// The number of a verdict, or 0 for one below it.
 fn number_of(verdict: &Verdict) -> u64
-    ensures value { result ≡ grounds.number_in verdict.now }
+    ensures value { result ≡ grounds_spec.number_in verdict.now }
     ensures in_range { result < 2 ^ 63 }
 {
     match *verdict {
@@ -76,7 +106,7 @@ fn open_grounds<'a>(
     requires { number < 2 ^ 63 }
     ensures { (recording : List (List values.ActValue)) → map placed.placed_value acts.now ≡ filter (placed.is_from pair.writer) (placed.placed_in recording)
         → questions_spec.AreQuestions pair.writer pair.reader (placed.placed_in recording) questions.now
-        → grounds.grounds_value result ≡ grounds.GroundsValue.OpenGrounds (locations.teller_of pair.writer pair.reader number (placed.placed_in recording))
+        → grounds_spec.grounds_value result ≡ grounds_spec.GroundsValue.OpenGrounds (locations.teller_of pair.writer pair.reader number (placed.placed_in recording))
         (questions_spec.asked_since pair.writer pair.reader (placed.placed_in recording)) (questions_spec.first_asked pair.writer pair.reader (placed.placed_in recording))
         (questions_spec.last_asked pair.writer pair.reader (placed.placed_in recording)) }
 {
@@ -91,7 +121,7 @@ fn open_grounds<'a>(
 /// Where the verdict is conflict, by what the writer says.
 fn conflict_grounds<'a>(acts: &[Placed<'a>], pair: Pair, number: u64) -> Grounds<'a>
     ensures { (recording : List (List values.ActValue)) → map placed.placed_value acts.now ≡ filter (placed.is_from pair.writer) (placed.placed_in recording)
-        → grounds.grounds_value result ≡ grounds.GroundsValue.ConflictGrounds (locations.first_sent pair.writer pair.reader number (placed.placed_in recording))
+        → grounds_spec.grounds_value result ≡ grounds_spec.GroundsValue.ConflictGrounds (locations.first_sent pair.writer pair.reader number (placed.placed_in recording))
         (locations.other_sent pair.writer pair.reader number (placed.placed_in recording)) }
 {
     Grounds::Conflict {
@@ -108,7 +138,7 @@ pub(crate) fn grounds_of<'a>(
 ) -> Grounds<'a>
     ensures { (recording : List (List values.ActValue)) → audit_said.IsSaid exchange.now.pair recording exchange.now.said
         → questions_spec.AreQuestions exchange.now.pair.writer exchange.now.pair.reader (placed.placed_in recording) questions.now
-        → grounds.grounds_value result ≡ grounds.grounds_by verdict.now exchange.now.pair (placed.placed_in recording) }
+        → grounds_spec.grounds_value result ≡ grounds_spec.grounds_by verdict.now exchange.now.pair (placed.placed_in recording) }
 {
     let pair = exchange.pair;
     let acts = exchange.said.acts;

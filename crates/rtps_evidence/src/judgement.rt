@@ -1,71 +1,110 @@
-ghost use Rattle.std.specs.Prelude.{false, ◌≡◌, IfOk, None};
+ghost use Rattle.std.specs.Prelude.{ℕ, ◌≡◌, All, IfOk, IfSome, List};
+ghost use Rattle.rtps_receiver.specs.Values as values;
 ghost use Rattle.rtps_audit.specs.Index as index_spec;
 ghost use Rattle.rtps_audit.specs.Intake as intake;
 ghost use Rattle.rtps_audit.specs.Report as report;
+ghost use Rattle.rtps_audit.specs.RunVerdict as run_verdict;
+ghost use Rattle.rtps_audit.specs.Said as said_spec;
+ghost use Rattle.rtps_audit.specs.Speech as speech;
 ghost use Rattle.rtps_evidence.specs.Evidence as evidence;
 ghost use Rattle.rtps_evidence.specs.Spans as spans;
 
+use crate::exchange::{Exchange, Extent};
 use crate::span::Span;
 use rtps_audit::{FirstAsked, Index, Row, Verdict};
 use rtps_discovery::Pair;
 use rtps_ids::{Memory, SeqNum};
+use std::alloc::Global;
 
-/// The verdict on a pair, and what its row is by.
+/// What the row of a pair is by, and what is known of its verdict.
 #[derive(Clone, Copy)]
 pub(crate) struct Judgement {
     pub(crate) pair: Pair,
     /// The span of the pair, where rows are in spans, or else the whole recording.
     pub(crate) span: Span,
     pub(crate) in_spans: bool,
-    /// By what is in the span.
-    pub(crate) verdict: Verdict,
+    /// By the acts as they are sent in the span, where it is known.
+    pub(crate) known: Option<Verdict>,
 }
 
 /// What the row of a pair is by: its span, where rows are in spans, or else the whole recording.
-pub(crate) fn span_of(index: &Index<'_>, pair: Pair, from: SeqNum, in_spans: bool) -> Span
-    ensures { (intake : intake.Intake) → index_spec.IsIndexBy intake index.now → spans.IsExtent in_spans from pair intake result }
+pub(crate) fn span_of(index: &Index<'_>, pair: Pair, extent: &Extent) -> Span
+    ensures { (intake : intake.Intake) → index_spec.IsIndexBy intake index.now → spans.IsExtent extent.now.in_spans extent.now.from pair intake result }
 {
-    if in_spans {
-        Span::of(index, pair, from)
+    if extent.in_spans {
+        Span::of(index, pair, extent.from)
     } else {
-        Span::whole(index, pair, from)
+        Span::whole(index, pair, extent.from)
     }
 }
 
-/// The verdict on a row's pair in its span, where this is the row of a report by the numbers from `from` on.
-fn verdict_on(index: &Index<'_>, row: Row, span: &Span, from: SeqNum) -> Result<Verdict, Memory>
-    ensures verdict { (intake : intake.Intake) → index_spec.IsIndexBy intake index.now → report.IsJudgedFrom from intake.acts row
-        → IfOk result (evidence.IsVerdictIn span.now row.pair intake.acts) }
-    ensures same { span.now.from ≡ from → span.now.until ≡ None → IfOk result (λ verdict. verdict ≡ row.verdict) }
+/// The row of a pair, if it is among these. They are looked through fastest where they are in order.
+fn row_among(known: &[Row], pair: Pair) -> Option<Row>
+    ensures pair { IfSome result (λ row. row.pair ≡ pair) }
+    ensures judged { (from : ℕ) (acts : List (List values.ActValue)) → All (report.IsJudgedFrom from acts) known.now → IfSome result (report.IsJudgedFrom from acts) }
+{
+    let place = known.partition_point(|row| row.pair < pair);
+    if place < known.len() && known[place].pair == pair {
+        return Some(known[place]);
+    }
+    None
+}
+
+/// The verdict on a row's pair in its span, where the row is by the whole recording and the numbers from `from` on. None where the span is
+/// another.
+fn verdict_in(span: &Span, row: Row, from: SeqNum) -> Option<Verdict>
+    ensures { (acts : List (List values.ActValue)) → report.IsJudgedFrom from acts row → IfSome result (evidence.IsVerdictIn span.now row.pair acts) }
 {
     if span.from == FirstAsked::of(from) && span.until.is_none() {
-        return Ok(row.verdict);
+        Some(row.verdict)
+    } else {
+        None
     }
-    index.judge_until(row.pair, span.from, span.until)
+}
+
+/// The verdict on a pair in its span, where one of these rows by the numbers from `from` on tells it.
+fn known_in(span: &Span, known: &[Row], pair: Pair, from: SeqNum) -> Option<Verdict>
+    ensures { (acts : List (List values.ActValue)) → All (report.IsJudgedFrom from acts) known.now → IfSome result (evidence.IsVerdictIn span.now pair acts) }
+{
+    match row_among(known, pair) {
+        Some(row) => verdict_in(span, row, from),
+        None => None,
+    }
 }
 
 impl Judgement {
-    /// What the row of a report by the numbers from `from` on is by, and its verdict by that.
-    pub(crate) fn of(
-        index: &Index<'_>,
-        row: Row,
-        from: SeqNum,
-        in_spans: bool,
-    ) -> Result<Judgement, Memory>
-        ensures pair { IfOk result (λ judgement. judgement.pair ≡ row.pair) }
-        ensures in_spans { IfOk result (λ judgement. judgement.in_spans ≡ in_spans) }
-        ensures extent { (intake : intake.Intake) → index_spec.IsIndexBy intake index.now → IfOk result (λ judgement. spans.IsExtent in_spans from row.pair intake judgement.span) }
-        ensures same { (intake : intake.Intake) → index_spec.IsIndexBy intake index.now → in_spans ≡ false → IfOk result (λ judgement. judgement.verdict ≡ row.verdict) }
-        ensures judged { (intake : intake.Intake) → index_spec.IsIndexBy intake index.now → report.IsJudgedFrom from intake.acts row
-            → IfOk result (λ judgement. evidence.IsVerdictIn judgement.span row.pair intake.acts judgement.verdict) }
+    /// What the row of a pair is by, where these are rows of a report by the same numbers: what they say need not be found again.
+    pub(crate) fn of(index: &Index<'_>, pair: Pair, known: &[Row], extent: &Extent) -> Judgement
+        ensures pair { result.pair ≡ pair }
+        ensures in_spans { result.in_spans ≡ extent.now.in_spans }
+        ensures extent { (intake : intake.Intake) → index_spec.IsIndexBy intake index.now → spans.IsExtent extent.now.in_spans extent.now.from pair intake result.span }
+        ensures known { (acts : List (List values.ActValue)) → All (report.IsJudgedFrom extent.now.from acts) known.now → IfSome result.known (evidence.IsVerdictIn result.span pair acts) }
     {
-        let span = span_of(index, row.pair, from, in_spans);
-        let verdict = verdict_on(index, row, &span, from)?;
-        Ok(Judgement {
-            pair: row.pair,
+        let span = span_of(index, pair, extent);
+        let known = known_in(&span, known, pair, extent.from);
+        Judgement {
+            pair,
             span,
-            in_spans,
-            verdict,
-        })
+            in_spans: extent.in_spans,
+            known,
+        }
+    }
+}
+
+/// The verdict by what a pair said as it is sent in its span, where it may be known. `Memory` is answered where what is kept of that cannot grow.
+pub(crate) fn verdict_of(
+    alloc: Global,
+    exchange: &Exchange<'_, '_>,
+    known: Option<Verdict>,
+) -> Result<Verdict, Memory>
+    ensures { (recording : List (List values.ActValue)) → said_spec.IsSaid exchange.now.pair recording exchange.now.said
+        → IfSome known (run_verdict.IsVerdictFrom exchange.now.span.from (speech.speech_by exchange.now.pair.writer exchange.now.pair.reader recording))
+        → IfOk result (run_verdict.IsVerdictFrom exchange.now.span.from (speech.speech_by exchange.now.pair.writer exchange.now.pair.reader recording)) }
+{
+    match known {
+        Some(verdict) => Ok(verdict),
+        None => exchange
+            .said
+            .judge_from(alloc, exchange.pair, exchange.span.from),
     }
 }

@@ -10,8 +10,9 @@ ghost use Rattle.rtps_evidence.specs.Outcomes as outcomes;
 ghost use Rattle.rtps_evidence.specs.Received as received;
 ghost use Rattle.rtps_evidence.specs.UnansweredLaw as unanswered_law;
 
-use rtps_audit::laws::{first_datagrams_say_the_same, has_no_two_verdicts, one_report};
+use rtps_audit::laws::{first_datagrams_say_the_same, has_no_two_verdicts};
 use rtps_discovery::laws::one_map;
+use rtps_fragments::laws::one_report_heard;
 
 /// Where a claim of a number that is asked for stands at its place, and no act of an earlier datagram has a word for that
 /// number, there is no run.
@@ -86,12 +87,19 @@ pub fn counts_say_tail()
     ensures { clean.CountsSayTail }
 {}
 
+/// Where rows are in no span, they are those of the report by what each reader hears, and so are the counts.
+pub fn rows_are_reported()
+    ensures { explanation.RowsAreReported }
+{
+    one_map();
+    one_report_heard();
+}
+
 /// What an index takes in is explained in one way, and so is a recording.
 pub fn one_explanation()
     ensures { explanation.HasOneExplanation }
 {
     one_map();
-    one_report();
     has_no_two_verdicts();
 }
 

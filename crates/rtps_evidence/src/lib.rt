@@ -18,7 +18,6 @@ mod gone_ranges;
 mod grounds;
 mod heard;
 mod in_span;
-mod judged_pairs;
 mod judgement;
 mod kinds;
 mod lacking;

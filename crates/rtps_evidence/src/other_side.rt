@@ -4,14 +4,17 @@ ghost use Rattle.rtps_audit.specs.Placed as placed;
 ghost use Rattle.rtps_coverage.specs.Stretches as stretches;
 ghost use Rattle.rtps_evidence.specs.Amount as amount;
 ghost use Rattle.rtps_evidence.specs.OtherSide as other_side;
+ghost use Rattle.rtps_fragments.specs.Hearing as hearing;
 
 use crate::recorded::sent_among;
 use crate::times::Times;
 use crate::way::Way;
 use crate::way_round::way_round;
-use rtps_audit::Index;
+use bumpalo::Bump;
+use rtps_audit::{Index, Said};
 use rtps_coverage::Stretch;
 use rtps_discovery::Pair;
+use rtps_fragments::heard_said;
 use rtps_ids::Memory;
 use rtps_policies::{Naming, Namings};
 use std::alloc::Global;
@@ -30,6 +33,8 @@ pub struct Sides<'i, 'a, 'o, 'b> {
     pub other: Option<OtherSide<'o, 'b>>,
     /// When the datagrams of the recording came.
     pub times: &'i Times,
+    /// Where the octets are kept that rows borrow, of samples that a reader put together.
+    pub arena: &'a Bump,
 }
 
 impl<'o, 'b> OtherSide<'o, 'b> {
@@ -50,10 +55,11 @@ impl<'o, 'b> OtherSide<'o, 'b> {
     /// The numbers of which the pair's reader hears a payload from its writer in it.
     fn sent(&self, alloc: Global, pair: Pair) -> Result<Vec<Stretch>, Memory>
         ensures { (other : other_side.OtherRecording) → other_side.IsSideOf other self.now → IfOk result (λ sent. (n : ℕ) → stretches.stretches_have sent.items n
-            ≡ amount.is_sent pair.writer pair.reader (placed.placed_in other.intake.acts) n) }
+            ≡ amount.is_sent pair.writer pair.reader (placed.placed_in (hearing.heard_by pair.reader other.intake.acts)) n) }
     {
-        let sent = sent_among(alloc, self.index.acts_of(pair.writer), pair)?;
-        Ok(sent)
+        let arena = Bump::new(alloc);
+        let said = heard_said(alloc, &arena, Said::until(self.index, pair, None), pair)?;
+        sent_among(alloc, said.acts, pair)
     }
 }
 

@@ -15,10 +15,12 @@ use crate::judgement::span_of;
 use crate::other_side::{Arrivals, Sides};
 use crate::said_to::said_to;
 use crate::way::Way;
+use bumpalo::Bump;
 use rtps_audit::{FirstAsked, Index, Placed, Said};
 use rtps_coverage::Stretch;
 use rtps_coverage::stretches::count_of;
 use rtps_discovery::Pair;
+use rtps_fragments::heard_said;
 use rtps_ids::{Guid, Memory, SeqNum};
 use std::alloc::Global;
 
@@ -98,12 +100,14 @@ pub fn recorded_of(
 ) -> Result<Recorded, Memory>
     ensures { (intake : intake.Intake) → index_spec.IsIndexBy intake index.now → IfOk result (recorded_spec.IsRecordedBy extent.in_spans extent.from pair intake) }
 {
-    let span = span_of(index, pair, extent.from, extent.in_spans);
-    let said = Said::until(index, pair, span.until);
+    let span = span_of(index, pair, &extent);
+    let sent = Said::until(index, pair, span.until);
     let from = span.from.get();
-    let behind = greatest_sent(said.acts, pair.writer) + 1;
-    let mut sent = sent_among(alloc, said.acts, pair)?;
-    let recorded = count_of(&mut sent, from, behind.max(from))?;
+    let behind = greatest_sent(sent.acts, pair.writer) + 1;
+    let arena = Bump::new(alloc);
+    let heard = heard_said(alloc, &arena, sent, pair)?;
+    let mut told = sent_among(alloc, heard.acts, pair)?;
+    let recorded = count_of(&mut told, from, behind.max(from))?;
     Ok(Recorded {
         numbers: behind.saturating_sub(from),
         recorded,
@@ -130,7 +134,7 @@ pub fn arrived_of(
     ensures { (intake : intake.Intake) (beside : other_side.Beside) → other_side.AreSides intake beside sides.now
         → IfOk result (recorded_spec.IsArrivedBy extent.in_spans extent.from beside.other pair intake) }
 {
-    let span = span_of(sides.index, pair, extent.from, extent.in_spans);
+    let span = span_of(sides.index, pair, &extent);
     let mut arrivals = Arrivals::of(alloc, sides, pair)?;
     let way = arrivals.way;
     if !arrivals.is_held {

@@ -1,4 +1,4 @@
-ghost use Rattle.std.specs.Prelude.{◌≡◌, map};
+ghost use Rattle.std.specs.Prelude.{◌≡◌, IfOk, map};
 ghost use Rattle.std.specs.List.{find};
 ghost use Rattle.std.specs.Option.{option_map};
 ghost use Rattle.rtps_wire.specs.Values as values;
@@ -7,8 +7,10 @@ ghost use Rattle.rtps_evidence.specs.Locations as locations;
 
 use crate::location::{Location, location_of};
 use crate::said_to::said_to;
+use bumpalo::Bump;
 use rtps_audit::Placed;
 use rtps_discovery::Pair;
+use rtps_ids::Memory;
 use rtps_wire::Payload;
 
 /// A payload that was sent for a number, and the DATA that it stands in.
@@ -16,6 +18,33 @@ use rtps_wire::Payload;
 pub struct Sent<'a> {
     pub payload: Payload<'a>,
     pub place: Location,
+}
+
+/// A payload, with its octets in an arena.
+fn payload_kept<'k>(payload: Payload<'_>, arena: &'k Bump) -> Result<Payload<'k>, Memory>
+    ensures { IfOk result (λ kept. values.payload_value kept ≡ values.payload_value payload.entry) }
+{
+    match payload {
+        Payload::Absent => Ok(Payload::Absent),
+        Payload::Whole(octets) => Ok(Payload::Whole(arena.try_alloc_slice_copy(octets)?)),
+        Payload::Key(octets) => Ok(Payload::Key(arena.try_alloc_slice_copy(octets)?)),
+    }
+}
+
+/// A payload that was sent, if there is one, with its octets in an arena.
+pub(crate) fn sent_kept<'k>(
+    sent: Option<Sent<'_>>,
+    arena: &'k Bump,
+) -> Result<Option<Sent<'k>>, Memory>
+    ensures { IfOk result (λ kept. option_map locations.sent_value kept ≡ option_map locations.sent_value sent.entry) }
+{
+    match sent {
+        Some(sent) => Ok(Some(Sent {
+            payload: payload_kept(sent.payload, arena)?,
+            place: sent.place,
+        })),
+        None => Ok(None),
+    }
 }
 
 /// The payload that the reader hears for the number from the writer by an act.

@@ -4,7 +4,6 @@ ghost use Rattle.rtps_audit.specs.Index as index_spec;
 ghost use Rattle.rtps_audit.specs.Intake as intake;
 ghost use Rattle.rtps_audit.specs.Placed as placed_spec;
 ghost use Rattle.rtps_receiver.specs.Speech as speech;
-ghost use Rattle.rtps_receiver.specs.Values as values;
 ghost use Rattle.rtps_evidence.specs.WayRound as way_round;
 
 use crate::act_key::key_of;
@@ -12,28 +11,14 @@ use crate::same_act::is_same_act;
 use rtps_audit::{Index, Placed};
 use rtps_discovery::Pair;
 use rtps_ids::Memory;
-use rtps_receiver::SpokenBody;
 use std::alloc::Global;
 use std::slice;
-
-/// Whether an act stands in a datagram: what fragments are put together to does not.
-fn is_sent(body: &SpokenBody<'_>) -> bool
-    ensures { result ≡ way_round.is_act_sent (values.spoken_body_value body.now) }
-{
-    match body {
-        SpokenBody::DataFrag(fragment) => fragment.told.is_none(),
-        SpokenBody::Act(_) => true,
-        SpokenBody::NackFrag(_) => true,
-    }
-}
 
 /// Whether an act is one that the pair's writer says to its reader.
 fn is_said_to(placed: &Placed<'_>, pair: Pair) -> bool
     ensures { result ≡ way_round.is_said_to pair (placed_spec.placed_value placed.now) }
 {
-    is_sent(&placed.act.body)
-        && placed.act.spoken_by(pair.writer)
-        && placed.act.heard_by(pair.reader)
+    placed.act.spoken_by(pair.writer) && placed.act.heard_by(pair.reader)
 }
 
 /// Adds those of these acts that the pair's writer says to its reader. After `Memory` the words are of no use.

@@ -1,8 +1,8 @@
--- Of any writer and reader, a recording with pieces and its acts with the samples among them tell alike.
+-- Of any writer and reader, a recording with pieces and what the reader hears of its acts tell alike.
 use Rattle.std.proofs.lemmas.Grind.{common_steps}
 use Rattle.std.proofs.lemmas.Bool.Decides.{nat_tests}
 use Rattle.std.proofs.Common.{◌≡◌, ℕ, zero, suc, ◌+◌, ◌-◌, ◌<◌, ◌≤◌, max, Bool, true, false, cond, List, [], ◌∷◌, ◌++◌, length, map, Option, Some, None, slice_get, take, refl, sym, ◌∙◌, ap, subst, arith, inl, inr, ◌⊎◌, append_assoc, append-nil}
-use Rattle.std.specs.Prelude.{Contains, unwrap_or}
+use Rattle.std.specs.Prelude.{Contains}
 use Rattle.std.specs.List.{cons_option, filter_map, flat_map}
 use Rattle.std.proofs.lemmas.Bool.{cases_lt}
 use Rattle.std.proofs.lemmas.List.{length-map}
@@ -25,11 +25,11 @@ use Rattle.rtps_fragments.specs.FragmentWalk as fragment_walk
 use Rattle.rtps_fragments.specs.SampleActs as sample_acts
 use Rattle.rtps_fragments.proofs.ActsAnd.{all_stay, length-acts, take_acts}
 use Rattle.rtps_fragments.proofs.AlikeBySamples.{IsGivenBefore, IsHadBefore, put_together, samples_alike}
-use Rattle.rtps_fragments.proofs.Audiences.{flat_from, flat_has}
+use Rattle.rtps_fragments.proofs.Lists.{flat_from, flat_has}
 use Rattle.rtps_fragments.proofs.FragmentsBefore.{fragments_before, place_of, sent_by, there_at}
 use Rattle.rtps_fragments.proofs.HeardLemmas.{heard-append, heard-cons, heard_has, heard_of, heard_one}
-use Rattle.rtps_fragments.proofs.AudienceNewsLemmas.{reader_told, silence_told}
-use Rattle.rtps_fragments.proofs.SampleActLemmas.{IsAllTold, IsSampleOf, NamesAll, TellsReader, act_or_sample, act_there, heard_is, hears_part, parts_told, sample_is_put, sample_spoken}
+use Rattle.rtps_fragments.proofs.SampleActLemmas.{IsSampleOf, NamesAll, TellsReader, act_or_sample, act_there, hears_part, parts_told, sample_is_put, sample_spoken}
+use Rattle.rtps_fragments.proofs.SamplesTell.{none_put}
 use Rattle.rtps_fragments.proofs.ToldLemmas.{IsPut}
 
 -- ---- the parts before a place
@@ -54,24 +54,27 @@ in_all recording datagram part there among = flat_has (λ (d : List sample_acts.
 
 -- ---- the datagrams with their samples
 
-samples_at : (before : List sample_acts.PieceAct) (recording : List (List sample_acts.PieceAct)) (i : ℕ) (datagram : List sample_acts.PieceAct) → slice_get recording i ≡ Some datagram
-    → slice_get (sample_acts.datagrams_and_samples before recording) i ≡ Some (sample_acts.acts_and_samples (before ++ parts_before recording i) datagram)
-samples_at before [] i datagram at = cc
-samples_at before (first ∷ recording) zero datagram at =
-    let same : first ≡ datagram = (let h = at in cc) in
-    ap (λ d. Some (sample_acts.acts_and_samples before d)) same ∙ ap (λ ps. Some (sample_acts.acts_and_samples ps datagram)) (sym (append-nil before))
-samples_at before (first ∷ recording) (suc i) datagram at =
-    samples_at (before ++ first) recording i datagram at ∙ ap (λ ps. Some (sample_acts.acts_and_samples ps datagram)) (append_assoc before first (parts_before recording i))
+abbrev acts_told : Guid → List sample_acts.PieceAct → List sample_acts.PieceAct → List receiver_values.ActValue
+acts_told reader before acts = sample_acts.acts_and (sample_acts.samples_told reader) before acts
 
-samples_from : (before : List sample_acts.PieceAct) (recording : List (List sample_acts.PieceAct)) (i : ℕ) (acts : List receiver_values.ActValue) → slice_get (sample_acts.datagrams_and_samples before recording) i ≡ Some acts
-    → (datagram : List sample_acts.PieceAct) × (slice_get recording i ≡ Some datagram) × (sample_acts.acts_and_samples (before ++ parts_before recording i) datagram ≡ acts)
-samples_from before [] i acts at = cc
-samples_from before (first ∷ recording) zero acts at =
-    let same : sample_acts.acts_and_samples before first ≡ acts = (let h = at in cc) in
-    (first, refl, ap (λ ps. sample_acts.acts_and_samples ps first) (append-nil before) ∙ same)
-samples_from before (first ∷ recording) (suc i) acts at =
-    let (datagram, stands, is) = samples_from (before ++ first) recording i acts at in
-    (datagram, stands, ap (λ ps. sample_acts.acts_and_samples ps datagram) (sym (append_assoc before first (parts_before recording i))) ∙ is)
+samples_at : (reader : Guid) (before : List sample_acts.PieceAct) (recording : List (List sample_acts.PieceAct)) (i : ℕ) (datagram : List sample_acts.PieceAct) → slice_get recording i ≡ Some datagram
+    → slice_get (sample_acts.datagrams_and (sample_acts.samples_told reader) before recording) i ≡ Some (acts_told reader (before ++ parts_before recording i) datagram)
+samples_at reader before [] i datagram at = cc
+samples_at reader before (first ∷ recording) zero datagram at =
+    let same : first ≡ datagram = (let h = at in cc) in
+    ap (λ d. Some (acts_told reader before d)) same ∙ ap (λ ps. Some (acts_told reader ps datagram)) (sym (append-nil before))
+samples_at reader before (first ∷ recording) (suc i) datagram at =
+    samples_at reader (before ++ first) recording i datagram at ∙ ap (λ ps. Some (acts_told reader ps datagram)) (append_assoc before first (parts_before recording i))
+
+samples_from : (reader : Guid) (before : List sample_acts.PieceAct) (recording : List (List sample_acts.PieceAct)) (i : ℕ) (acts : List receiver_values.ActValue) → slice_get (sample_acts.datagrams_and (sample_acts.samples_told reader) before recording) i ≡ Some acts
+    → (datagram : List sample_acts.PieceAct) × (slice_get recording i ≡ Some datagram) × (acts_told reader (before ++ parts_before recording i) datagram ≡ acts)
+samples_from reader before [] i acts at = cc
+samples_from reader before (first ∷ recording) zero acts at =
+    let same : acts_told reader before first ≡ acts = (let h = at in cc) in
+    (first, refl, ap (λ ps. acts_told reader ps first) (append-nil before) ∙ same)
+samples_from reader before (first ∷ recording) (suc i) acts at =
+    let (datagram, stands, is) = samples_from reader (before ++ first) recording i acts at in
+    (datagram, stands, ap (λ ps. acts_told reader ps datagram) (sym (append_assoc before first (parts_before recording i))) ∙ is)
 
 -- ---- what the reader hears
 
@@ -98,27 +101,23 @@ fragments_are writer reader (first ∷ recording) (suc i) =
 -- a datagram before the place tells the reader the payload
 abbrev IsToldAt : Guid → Guid → List sample_acts.PieceAct → List (List sample_acts.PieceAct) → ℕ → ℕ → wire_values.PayloadValue → Type 0
 IsToldAt writer reader before recording j n payload =
-    (i : ℕ) × (datagram : List sample_acts.PieceAct) × (i < j) × (slice_get recording i ≡ Some datagram) × TellsReader writer reader (sample_acts.acts_and_samples (before ++ parts_before recording i) datagram) n payload
+    (i : ℕ) × (datagram : List sample_acts.PieceAct) × (i < j) × (slice_get recording i ≡ Some datagram) × TellsReader writer reader (acts_told reader (before ++ parts_before recording i) datagram) n payload
 
-datagrams_told : (writer reader : Guid) (n : ℕ) (shape : Shape) (before : List sample_acts.PieceAct) (recording : List (List sample_acts.PieceAct)) → NamesAll (sample_acts.piece_acts_in recording) → (j : ℕ) (So : List ℕ → Type 0) → IsAllTold writer reader n shape before So
-    → IsAllTold writer reader n shape (before ++ parts_before recording j) (λ octets. So octets ⊎ IsToldAt writer reader before recording j n (fragment_delivery.payload_by shape octets))
-datagrams_told writer reader n shape before [] named j So told =
-    subst (λ ps. IsAllTold writer reader n shape ps (λ octets. So octets ⊎ IsToldAt writer reader before [] j n (fragment_delivery.payload_by shape octets))) (sym (append-nil before)) (λ audience among has octets there. inl (told audience among has octets there))
-datagrams_told writer reader n shape before (first ∷ recording) named zero So told =
-    subst (λ ps. IsAllTold writer reader n shape ps (λ octets. So octets ⊎ IsToldAt writer reader before (first ∷ recording) zero n (fragment_delivery.payload_by shape octets))) (sym (append-nil before)) (λ audience among has octets there. inl (told audience among has octets there))
-datagrams_told writer reader n shape before (first ∷ recording) named (suc j) So told =
-    let Here : List ℕ → Type 0 = λ octets. So octets ⊎ TellsReader writer reader (sample_acts.acts_and_samples before first) n (fragment_delivery.payload_by shape octets) in
-    let one = parts_told writer reader n shape before first (λ part piece among is. named part piece (Contains-append_left first (sample_acts.piece_acts_in recording) part among) is) So told in
-    let rest = datagrams_told writer reader n shape (before ++ first) recording (λ part piece among is. named part piece (Contains-append_right first (sample_acts.piece_acts_in recording) part among) is) j Here one in
-    subst (λ ps. IsAllTold writer reader n shape ps (λ octets. So octets ⊎ IsToldAt writer reader before (first ∷ recording) (suc j) n (fragment_delivery.payload_by shape octets))) (append_assoc before first (parts_before recording j))
-    (λ audience among has octets there. join octets (rest audience among has octets there))
-  where
-    join : (octets : List ℕ) → (So octets ⊎ TellsReader writer reader (sample_acts.acts_and_samples before first) n (fragment_delivery.payload_by shape octets)) ⊎ IsToldAt writer reader (before ++ first) recording j n (fragment_delivery.payload_by shape octets)
-        → So octets ⊎ IsToldAt writer reader before (first ∷ recording) (suc j) n (fragment_delivery.payload_by shape octets)
-    join octets (inl (inl so)) = inl so
-    join octets (inl (inr tells)) = inr (0, first, omega arith, refl, subst (λ ps. TellsReader writer reader (sample_acts.acts_and_samples ps first) n (fragment_delivery.payload_by shape octets)) (sym (append-nil before)) tells)
-    join octets (inr (i, datagram, lt, at, tells)) =
-        inr (suc i, datagram, omega arith, at, subst (λ ps. TellsReader writer reader (sample_acts.acts_and_samples ps datagram) n (fragment_delivery.payload_by shape octets)) (append_assoc before first (parts_before recording i)) tells)
+-- what can be put together before a place could be before, or is told by a datagram before it
+datagrams_told : (writer reader : Guid) (n : ℕ) (shape : Shape) (payload : wire_values.PayloadValue) (before : List sample_acts.PieceAct) (recording : List (List sample_acts.PieceAct)) → NamesAll (sample_acts.piece_acts_in recording) → (j : ℕ)
+    → Contains (samples.payloads_of n shape (heard_of (hears_part writer reader) (before ++ parts_before recording j))) payload
+    → Contains (samples.payloads_of n shape (heard_of (hears_part writer reader) before)) payload ⊎ IsToldAt writer reader before recording j n payload
+datagrams_told writer reader n shape payload before [] named j among = inl (subst (λ ps. Contains (samples.payloads_of n shape (heard_of (hears_part writer reader) ps)) payload) (append-nil before) among)
+datagrams_told writer reader n shape payload before (first ∷ recording) named zero among = inl (subst (λ ps. Contains (samples.payloads_of n shape (heard_of (hears_part writer reader) ps)) payload) (append-nil before) among)
+datagrams_told writer reader n shape payload before (first ∷ recording) named (suc j) among =
+    elim (datagrams_told writer reader n shape payload (before ++ first) recording (λ part piece there is. named part piece (Contains-append_right first (sample_acts.piece_acts_in recording) part there) is) j
+    (subst (λ ps. Contains (samples.payloads_of n shape (heard_of (hears_part writer reader) ps)) payload) (sym (append_assoc before first (parts_before recording j))) among)) [
+      | inl earlier ↦ elim (parts_told writer reader n shape payload before first (λ part piece there is. named part piece (Contains-append_left first (sample_acts.piece_acts_in recording) part there) is) earlier) [
+        | inl old ↦ inl old
+        | inr tells ↦ inr (0, first, omega arith, refl, subst (λ ps. TellsReader writer reader (acts_told reader ps first) n payload) (sym (append-nil before)) tells)
+      ]
+      | inr (i, datagram, lt, at, tells) ↦ inr (suc i, datagram, omega arith, at, subst (λ ps. TellsReader writer reader (acts_told reader ps datagram) n payload) (append_assoc before first (parts_before recording i)) tells)
+    ]
 
 before_all : (recording : List (List sample_acts.PieceAct)) (j : ℕ) (part : sample_acts.PieceAct) → Contains (parts_before recording j) part → Contains (sample_acts.piece_acts_in recording) part
 before_all [] j part among = absurd (contains_none part among)
@@ -131,26 +130,15 @@ before_all (first ∷ recording) (suc j) part among = elim (Contains-append_case
 -- what can be put together before a place is told by a datagram before it
 put_at : (writer reader : Guid) (n : ℕ) (shape : Shape) (payload : wire_values.PayloadValue) (recording : List (List sample_acts.PieceAct)) (j : ℕ) → NamesAll (sample_acts.piece_acts_in recording)
     → Contains (samples.payloads_of n shape (heard_of (hears_part writer reader) (parts_before recording j))) payload → IsToldAt writer reader [] recording j n payload
-put_at writer reader n shape payload recording j named among =
-    let last = data_frag.last_fragment shape in
-    let before = parts_before recording j in
-    let (octets, made, is) = contains_mapped (fragment_delivery.payload_by shape) (samples.samples_of last (filter_map (samples.came_of n shape) (heard_of (hears_part writer reader) before))) payload among in
-    let heard = subst (λ cs. Contains (samples.samples_of last cs) octets) (heard_is writer reader n shape before (λ part piece there e. named part piece (before_all recording j part there) e)) made in
-    let Nothing : List ℕ → Type 0 = λ o. ⊥ in
-    let So : List ℕ → Type 0 = λ o. Nothing o ⊎ IsToldAt writer reader [] recording j n (fragment_delivery.payload_by shape o) in
-    let told = datagrams_told writer reader n shape [] recording named j Nothing (silence_told last reader Nothing) in
-    subst (IsToldAt writer reader [] recording j n) is (elim (reader_told last reader (sample_acts.offers_of writer n shape before) So told octets heard) [
-      | inl none ↦ absurd none
-      | inr at ↦ at
-    ])
+put_at writer reader n shape payload recording j named among = elim (datagrams_told writer reader n shape payload [] recording named j among) [
+  | inl none ↦ absurd (none_put n payload (shape, none))
+  | inr at ↦ at
+]
 
 -- ---- parts
 
 pub announcer_named : (body : receiver_values.ActBodyValue) (n : ℕ) → audit_speech.announced_of_body body ≡ Some n → receiver_speech.writer_named body ≡ Some (receiver_speech.entity_from body)
 announcer_named body n h = grind (arith, nat_tests)
-
-pub reader_announced : (body : receiver_values.ActBodyValue) (n : ℕ) → audit_speech.announced_of_body body ≡ Some n → receiver_speech.reader_named body ≡ Some (unwrap_or (receiver_speech.reader_named body) receiver_speech.unknown_entity)
-reader_announced body n h = grind (arith, nat_tests)
 
 pub fragment_bounds : (n : ℕ) (shape : Shape) (i : ℕ) (parts : List (List ℕ)) (f : fragment_delivery.Fragment) → Contains (fragment_delivery.fragments_from n shape i parts) f → (i ≤ f.index) × (f.index < i + length parts) × (f.shape ≡ shape)
 fragment_bounds n shape i [] f among = absurd (contains_none f among)
@@ -177,41 +165,41 @@ no_base true base e = cc
 no_base false base e = cc
 
 -- what these acts announce, their samples announce, and no other number
-announced_alike : (writer : Guid) (before datagram : List sample_acts.PieceAct) → ((part : sample_acts.PieceAct) (piece : fragment_delivery.Piece) → Contains datagram part → part.piece ≡ Some piece → laws.IsPieceAct part piece)
-    → delivery.greatest (filter_map (audit_speech.announced_for writer) (map (λ (part : sample_acts.PieceAct). part.act) datagram)) ≡ delivery.greatest (filter_map (audit_speech.announced_for writer) (sample_acts.acts_and_samples before datagram))
-announced_alike writer before datagram parts = same_greatest _ _ to from
+announced_alike : (writer reader : Guid) (before datagram : List sample_acts.PieceAct) → ((part : sample_acts.PieceAct) (piece : fragment_delivery.Piece) → Contains datagram part → part.piece ≡ Some piece → laws.IsPieceAct part piece)
+    → delivery.greatest (filter_map (audit_speech.announced_for writer) (map (λ (part : sample_acts.PieceAct). part.act) datagram)) ≡ delivery.greatest (filter_map (audit_speech.announced_for writer) (acts_told reader before datagram))
+announced_alike writer reader before datagram parts = same_greatest _ _ to from
   where
-    to : (x : ℕ) → Contains (filter_map (audit_speech.announced_for writer) (map (λ (part : sample_acts.PieceAct). part.act) datagram)) x → Contains (filter_map (audit_speech.announced_for writer) (sample_acts.acts_and_samples before datagram)) x
+    to : (x : ℕ) → Contains (filter_map (audit_speech.announced_for writer) (map (λ (part : sample_acts.PieceAct). part.act) datagram)) x → Contains (filter_map (audit_speech.announced_for writer) (acts_told reader before datagram)) x
     to x among =
         let (act, there, is) = made_from (audit_speech.announced_for writer) (map (λ (part : sample_acts.PieceAct). part.act) datagram) x among in
         let (part, has, same) = contains_mapped (λ (p : sample_acts.PieceAct). p.act) datagram act there in
-        makes (audit_speech.announced_for writer) (sample_acts.acts_and_samples before datagram) part.act x (act_there before datagram part has) (ap (audit_speech.announced_for writer) same ∙ is)
+        makes (audit_speech.announced_for writer) (acts_told reader before datagram) part.act x (act_there reader before datagram part has) (ap (audit_speech.announced_for writer) same ∙ is)
 
     of_part : (part : sample_acts.PieceAct) (x : ℕ) → Contains datagram part → audit_speech.announced_for writer part.act ≡ Some x → Contains (filter_map (audit_speech.announced_for writer) (map (λ (p : sample_acts.PieceAct). p.act) datagram)) x
     of_part part x has is = makes (audit_speech.announced_for writer) (map (λ (p : sample_acts.PieceAct). p.act) datagram) part.act x (mapped_contains (λ (p : sample_acts.PieceAct). p.act) datagram part has) is
 
-    of_sample : (act : receiver_values.ActValue) (x : ℕ) → IsSampleOf before datagram act → audit_speech.announced_for writer act ≡ Some x → Contains (filter_map (audit_speech.announced_for writer) (map (λ (p : sample_acts.PieceAct). p.act) datagram)) x
+    of_sample : (act : receiver_values.ActValue) (x : ℕ) → IsSampleOf reader before datagram act → audit_speech.announced_for writer act ≡ Some x → Contains (filter_map (audit_speech.announced_for writer) (map (λ (p : sample_acts.PieceAct). p.act) datagram)) x
     of_sample act x sample is =
         let part = parts sample.part sample.piece sample.among sample.has in
         let named = announcer_named sample.part.act.body sample.piece.number part.announces in
         let (spoken, number) = if_some _ (Some sample.piece.number) x (subst (λ (a : receiver_values.ActValue). audit_speech.announced_for writer a ≡ Some x) (sym sample.is) is) in
-        let speaks = sym (sample_spoken sample.part.act sample.piece.number sample.audience (fragment_delivery.payload_by sample.piece.shape sample.octets) writer named) ∙ spoken in
+        let speaks = sym (sample_spoken reader sample.part.act sample.piece.number sample.payload writer named) ∙ spoken in
         of_part sample.part x sample.among (ap (λ b. cond b (audit_speech.announced_of_body sample.part.act.body) None) speaks ∙ part.announces ∙ number)
 
-    from : (x : ℕ) → Contains (filter_map (audit_speech.announced_for writer) (sample_acts.acts_and_samples before datagram)) x → Contains (filter_map (audit_speech.announced_for writer) (map (λ (part : sample_acts.PieceAct). part.act) datagram)) x
+    from : (x : ℕ) → Contains (filter_map (audit_speech.announced_for writer) (acts_told reader before datagram)) x → Contains (filter_map (audit_speech.announced_for writer) (map (λ (part : sample_acts.PieceAct). part.act) datagram)) x
     from x among =
-        let (act, there, is) = made_from (audit_speech.announced_for writer) (sample_acts.acts_and_samples before datagram) x among in
-        elim (act_or_sample before datagram act there) [
+        let (act, there, is) = made_from (audit_speech.announced_for writer) (acts_told reader before datagram) x among in
+        elim (act_or_sample reader before datagram act there) [
           | inl (part, has, same) ↦ of_part part x has (ap (audit_speech.announced_for writer) same ∙ is)
           | inr sample ↦ of_sample act x sample is
         ]
 
 last_alike : (from : ℕ) (writer reader : Guid) (before : List sample_acts.PieceAct) (recording : List (List sample_acts.PieceAct)) → laws.ArePieceActs recording
-    → delivery.last_announced_from from (fragment_delivery.said_in (sample_acts.fragment_speech_of writer reader recording)) ≡ delivery.last_announced_from from (audit_speech.speech_by writer reader (sample_acts.datagrams_and_samples before recording))
+    → delivery.last_announced_from from (fragment_delivery.said_in (sample_acts.fragment_speech_of writer reader recording)) ≡ delivery.last_announced_from from (audit_speech.speech_by writer reader (sample_acts.datagrams_and (sample_acts.samples_told reader) before recording))
 last_alike from writer reader before [] parts = refl
 last_alike from writer reader before (first ∷ recording) parts =
-    ap (λ n. max n (delivery.last_announced_from from (fragment_delivery.said_in (sample_acts.fragment_speech_of writer reader recording)))) (announced_alike writer before first (λ part piece among is. parts first part piece (contains_head first recording) among is))
-    ∙ ap (max (delivery.greatest (filter_map (audit_speech.announced_for writer) (sample_acts.acts_and_samples before first))))
+    ap (λ n. max n (delivery.last_announced_from from (fragment_delivery.said_in (sample_acts.fragment_speech_of writer reader recording)))) (announced_alike writer reader before first (λ part piece among is. parts first part piece (contains_head first recording) among is))
+    ∙ ap (max (delivery.greatest (filter_map (audit_speech.announced_for writer) (acts_told reader before first))))
     (last_alike from writer reader (before ++ first) recording (λ datagram part piece there among is. parts datagram part piece (contains_tail first recording datagram there) among is))
 
 -- ---- all that is told
@@ -220,7 +208,7 @@ pub names_all : (recording : List (List sample_acts.PieceAct)) → laws.ArePiece
 names_all recording parts part piece among is =
     let (datagram, there, has) = flat_from (λ (d : List sample_acts.PieceAct). d) recording part among in
     let announces = (parts datagram part piece there has is).announces in
-    (announcer_named part.act.body piece.number announces, reader_announced part.act.body piece.number announces)
+    announcer_named part.act.body piece.number announces
 
 module _ (from : ℕ) (writer reader : Guid) (recording : List (List sample_acts.PieceAct)) (parts : laws.ArePieceActs recording) where
   said_at : (i : ℕ) (datagram : List sample_acts.PieceAct) → slice_get recording i ≡ Some datagram → slice_get (fragment_delivery.said_in (sample_acts.fragment_speech_of writer reader recording)) i ≡ Some (audit_speech.said_by writer reader (map (λ (p : sample_acts.PieceAct). p.act) datagram))
@@ -236,36 +224,36 @@ module _ (from : ℕ) (writer reader : Guid) (recording : List (List sample_acts
       (own, there, ap (λ (d : fragment_delivery.FragmentDatagram). d.said) made ∙ is)
 
   told_at : (i : ℕ) (datagram : List sample_acts.PieceAct) → slice_get recording i ≡ Some datagram
-      → slice_get (audit_speech.speech_by writer reader (sample_acts.datagrams_and_samples [] recording)) i ≡ Some (audit_speech.said_by writer reader (sample_acts.acts_and_samples (parts_before recording i) datagram))
+      → slice_get (audit_speech.speech_by writer reader (sample_acts.datagrams_and (sample_acts.samples_told reader) [] recording)) i ≡ Some (audit_speech.said_by writer reader (acts_told reader (parts_before recording i) datagram))
   told_at i datagram at =
-      get_mapped (audit_speech.said_by writer reader) (sample_acts.datagrams_and_samples [] recording) i (sample_acts.acts_and_samples (parts_before recording i) datagram) (samples_at [] recording i datagram at)
+      get_mapped (audit_speech.said_by writer reader) (sample_acts.datagrams_and (sample_acts.samples_told reader) [] recording) i (acts_told reader (parts_before recording i) datagram) (samples_at reader [] recording i datagram at)
 
-  told_from : (i : ℕ) (datagram : delivery.Datagram) → slice_get (audit_speech.speech_by writer reader (sample_acts.datagrams_and_samples [] recording)) i ≡ Some datagram
-      → (own : List sample_acts.PieceAct) × (slice_get recording i ≡ Some own) × (audit_speech.said_by writer reader (sample_acts.acts_and_samples (parts_before recording i) own) ≡ datagram)
+  told_from : (i : ℕ) (datagram : delivery.Datagram) → slice_get (audit_speech.speech_by writer reader (sample_acts.datagrams_and (sample_acts.samples_told reader) [] recording)) i ≡ Some datagram
+      → (own : List sample_acts.PieceAct) × (slice_get recording i ≡ Some own) × (audit_speech.said_by writer reader (acts_told reader (parts_before recording i) own) ≡ datagram)
   told_from i datagram at = grind (arith, nat_tests, common_steps, mapped_get, samples_from)
 
   -- an act with a word gives it
-  act_gives : (i n : ℕ) (word : delivery.Word) (datagram : List sample_acts.PieceAct) (act : receiver_values.ActValue) → slice_get recording i ≡ Some datagram → Contains (sample_acts.acts_and_samples (parts_before recording i) datagram) act
-      → audit_speech.word_for writer reader act n ≡ Some word → delivery.IsAsked from n → (k : ℕ) × delivery.Gives from (audit_speech.speech_by writer reader (sample_acts.datagrams_and_samples [] recording)) i k n word
+  act_gives : (i n : ℕ) (word : delivery.Word) (datagram : List sample_acts.PieceAct) (act : receiver_values.ActValue) → slice_get recording i ≡ Some datagram → Contains (acts_told reader (parts_before recording i) datagram) act
+      → audit_speech.word_for writer reader act n ≡ Some word → delivery.IsAsked from n → (k : ℕ) × delivery.Gives from (audit_speech.speech_by writer reader (sample_acts.datagrams_and (sample_acts.samples_told reader) [] recording)) i k n word
   act_gives i n word datagram act at among says asked =
-      let acts = sample_acts.acts_and_samples (parts_before recording i) datagram in
+      let acts = acts_told reader (parts_before recording i) datagram in
       let (k, stands) = place_of acts act among in
       (k, record { datagram = audit_speech.said_by writer reader acts; act = audit_speech.word_for writer reader act; stands = told_at i datagram at; speaks = get_mapped (audit_speech.word_for writer reader) acts k act stands; asked = asked; says = says })
 
-  said_is_given : (j n : ℕ) (word : delivery.Word) → fragment_verdict.IsSaidBefore from (sample_acts.fragment_speech_of writer reader recording) j n word → IsGivenBefore from (audit_speech.speech_by writer reader (sample_acts.datagrams_and_samples [] recording)) j n word
+  said_is_given : (j n : ℕ) (word : delivery.Word) → fragment_verdict.IsSaidBefore from (sample_acts.fragment_speech_of writer reader recording) j n word → IsGivenBefore from (audit_speech.speech_by writer reader (sample_acts.datagrams_and (sample_acts.samples_told reader) [] recording)) j n word
   said_is_given j n word said =
       let gives = said.gives in
       let (own, at, is) = said_from said.place gives.datagram gives.stands in
       let speaks = subst (λ (d : delivery.Datagram). slice_get d.acts said.act ≡ Some gives.act) (sym is) gives.speaks in
       let (act, stands, made) = mapped_get (audit_speech.word_for writer reader) (map (λ (p : sample_acts.PieceAct). p.act) own) said.act gives.act speaks in
       let (part, there, same) = mapped_get (λ (p : sample_acts.PieceAct). p.act) own said.act act stands in
-      let among = act_there (parts_before recording said.place) own part (there_at own said.act part there) in
+      let among = act_there reader (parts_before recording said.place) own part (there_at own said.act part there) in
       let says = ap (λ (a : receiver_values.ActValue). audit_speech.word_for writer reader a n) same ∙ ap (λ (f : ℕ → Option delivery.Word). f n) made ∙ gives.says in
       let (k, given) = act_gives said.place n word own part.act at among says gives.asked in
       (said.place, k, said.earlier, given)
 
   put_is_given : (j n : ℕ) (payload : wire_values.PayloadValue) → delivery.IsAsked from n → IsPut n (fragments_before (sample_acts.fragment_speech_of writer reader recording) j) payload
-      → IsGivenBefore from (audit_speech.speech_by writer reader (sample_acts.datagrams_and_samples [] recording)) j n (delivery.Word.Told payload)
+      → IsGivenBefore from (audit_speech.speech_by writer reader (sample_acts.datagrams_and (sample_acts.samples_told reader) [] recording)) j n (delivery.Word.Told payload)
   put_is_given j n payload asked (shape, among) =
       let heard = subst (λ fs. Contains (samples.payloads_of n shape fs) payload) (fragments_are writer reader recording j) among in
       let (i, datagram, lt, at, (act, there, says)) = put_at writer reader n shape payload recording j (names_all recording parts) heard in
@@ -293,14 +281,14 @@ module _ (from : ℕ) (writer reader : Guid) (recording : List (List sample_acts
       let last = of.last in
       (omega arith, subst (λ s. f.index ≤ data_frag.last_fragment s) (sym shape) (omega arith))
 
-  given_is_had : (j n : ℕ) (word : delivery.Word) → IsGivenBefore from (audit_speech.speech_by writer reader (sample_acts.datagrams_and_samples [] recording)) j n word → IsHadBefore from (sample_acts.fragment_speech_of writer reader recording) j n word
+  given_is_had : (j n : ℕ) (word : delivery.Word) → IsGivenBefore from (audit_speech.speech_by writer reader (sample_acts.datagrams_and (sample_acts.samples_told reader) [] recording)) j n word → IsHadBefore from (sample_acts.fragment_speech_of writer reader recording) j n word
   given_is_had j n word (i, k, lt, gives) =
       let (own, at, is) = told_from i gives.datagram gives.stands in
-      let acts = sample_acts.acts_and_samples (parts_before recording i) own in
+      let acts = acts_told reader (parts_before recording i) own in
       let speaks = subst (λ (d : delivery.Datagram). slice_get d.acts k ≡ Some gives.act) (sym is) gives.speaks in
       let (act, stands, made) = mapped_get (audit_speech.word_for writer reader) acts k gives.act speaks in
       let says = ap (λ (f : ℕ → Option delivery.Word). f n) made ∙ gives.says in
-      elim (act_or_sample (parts_before recording i) own act (there_at acts k act stands)) [
+      elim (act_or_sample reader (parts_before recording i) own act (there_at acts k act stands)) [
         | inl (part, among, same) ↦ inl (said own part at among (ap (λ (a : receiver_values.ActValue). audit_speech.word_for writer reader a n) same ∙ says) gives.asked)
         | inr sample ↦ inr (put own act at sample says gives.asked)
       ]
@@ -324,7 +312,7 @@ module _ (from : ℕ) (writer reader : Guid) (recording : List (List sample_acts
             };
           }
 
-      put : (own : List sample_acts.PieceAct) (act : receiver_values.ActValue) → slice_get recording i ≡ Some own → IsSampleOf (parts_before recording i) own act → audit_speech.word_for writer reader act n ≡ Some word → delivery.IsAsked from n
+      put : (own : List sample_acts.PieceAct) (act : receiver_values.ActValue) → slice_get recording i ≡ Some own → IsSampleOf reader (parts_before recording i) own act → audit_speech.word_for writer reader act n ≡ Some word → delivery.IsAsked from n
           → (payload : wire_values.PayloadValue) × (word ≡ delivery.Word.Told payload) × fragment_delivery.IsPutTogether (fragment_verdict.IsSentBefore from (sample_acts.fragment_speech_of writer reader recording) j) n payload
       put own act at sample says asked =
           let there = λ (f : fragment_delivery.Fragment). delivery.IsAsked from f.number → fragment_verdict.IsSentBefore from (sample_acts.fragment_speech_of writer reader recording) j f in
@@ -334,31 +322,31 @@ module _ (from : ℕ) (writer reader : Guid) (recording : List (List sample_acts
           ]) act n word sample says in
           (payload, tells, put_together from (sample_acts.fragment_speech_of writer reader recording) within j n asked fragments sent payload is_put)
 
-  claims_to : (j n : ℕ) → delivery.Claims from (fragment_delivery.said_in (sample_acts.fragment_speech_of writer reader recording)) j n → delivery.Claims from (audit_speech.speech_by writer reader (sample_acts.datagrams_and_samples [] recording)) j n
+  claims_to : (j n : ℕ) → delivery.Claims from (fragment_delivery.said_in (sample_acts.fragment_speech_of writer reader recording)) j n → delivery.Claims from (audit_speech.speech_by writer reader (sample_acts.datagrams_and (sample_acts.samples_told reader) [] recording)) j n
   claims_to j n claims =
       let (own, at, is) = said_from j claims.datagram claims.stands in
-      let acts = sample_acts.acts_and_samples (parts_before recording j) own in
+      let acts = acts_told reader (parts_before recording j) own in
       let (act, there, base) = made_from (audit_speech.base_for writer reader) (map (λ (p : sample_acts.PieceAct). p.act) own) claims.base (subst (λ (d : delivery.Datagram). Contains d.bases claims.base) (sym is) claims.answers) in
       let (part, among, same) = contains_mapped (λ (p : sample_acts.PieceAct). p.act) own act there in
       record {
         datagram = audit_speech.said_by writer reader acts;
         base = claims.base;
         stands = told_at j own at;
-        answers = makes (audit_speech.base_for writer reader) acts part.act claims.base (act_there (parts_before recording j) own part among) (ap (audit_speech.base_for writer reader) same ∙ base);
+        answers = makes (audit_speech.base_for writer reader) acts part.act claims.base (act_there reader (parts_before recording j) own part among) (ap (audit_speech.base_for writer reader) same ∙ base);
         asked = claims.asked;
         below = claims.below;
       }
 
-  claims_from : (j n : ℕ) → delivery.Claims from (audit_speech.speech_by writer reader (sample_acts.datagrams_and_samples [] recording)) j n → delivery.Claims from (fragment_delivery.said_in (sample_acts.fragment_speech_of writer reader recording)) j n
+  claims_from : (j n : ℕ) → delivery.Claims from (audit_speech.speech_by writer reader (sample_acts.datagrams_and (sample_acts.samples_told reader) [] recording)) j n → delivery.Claims from (fragment_delivery.said_in (sample_acts.fragment_speech_of writer reader recording)) j n
   claims_from j n claims =
       let (own, at, is) = told_from j claims.datagram claims.stands in
-      let acts = sample_acts.acts_and_samples (parts_before recording j) own in
+      let acts = acts_told reader (parts_before recording j) own in
       let (act, there, base) = made_from (audit_speech.base_for writer reader) acts claims.base (subst (λ (d : delivery.Datagram). Contains d.bases claims.base) (sym is) claims.answers) in
       record {
         datagram = audit_speech.said_by writer reader (map (λ (p : sample_acts.PieceAct). p.act) own);
         base = claims.base;
         stands = said_at j own at;
-        answers = elim (act_or_sample (parts_before recording j) own act there) [
+        answers = elim (act_or_sample reader (parts_before recording j) own act there) [
           | inl (part, among, same) ↦ makes (audit_speech.base_for writer reader) (map (λ (p : sample_acts.PieceAct). p.act) own) part.act claims.base (mapped_contains (λ (p : sample_acts.PieceAct). p.act) own part among) (ap (audit_speech.base_for writer reader) same ∙ base)
           | inr sample ↦ absurd (no_base _ claims.base (subst (λ (a : receiver_values.ActValue). audit_speech.base_for writer reader a ≡ Some claims.base) (sym sample.is) base))
         ];
@@ -368,8 +356,8 @@ module _ (from : ℕ) (writer reader : Guid) (recording : List (List sample_acts
 
 pub acts_tell_alike : laws.ActsTellAlike
 acts_tell_alike from writer reader recording parts =
-    samples_alike from (sample_acts.fragment_speech_of writer reader recording) (within from writer reader recording parts) (audit_speech.speech_by writer reader (sample_acts.datagrams_and_samples [] recording)) (record {
-      counted = length-map (sample_acts.datagrams_and_samples [] recording) (audit_speech.said_by writer reader) ∙ length-acts sample_acts.samples_told [] recording ∙ sym (length-map recording _);
+    samples_alike from (sample_acts.fragment_speech_of writer reader recording) (within from writer reader recording parts) (audit_speech.speech_by writer reader (sample_acts.datagrams_and (sample_acts.samples_told reader) [] recording)) (record {
+      counted = length-map (sample_acts.datagrams_and (sample_acts.samples_told reader) [] recording) (audit_speech.said_by writer reader) ∙ length-acts (sample_acts.samples_told reader) [] recording ∙ sym (length-map recording _);
       claims = λ j n. (claims_to from writer reader recording parts j n, claims_from from writer reader recording parts j n);
       announced = last_alike from writer reader [] recording parts;
       said = said_is_given from writer reader recording parts;
@@ -387,10 +375,6 @@ take_mapped (suc n) (octets ∷ recording) = ap (λ rest. fragment_walk.piece_ac
 pub sent_until : (until : Option ℕ) (recording : List (List ℕ)) → said.datagrams_until until (fragment_walk.sending_of recording) ≡ fragment_walk.sending_of (said.datagrams_until until recording)
 sent_until until recording = grind (arith, nat_tests, common_steps, take_mapped)
 
-pub first_datagrams_tell_the_same : laws.FirstDatagramsTellTheSame
-first_datagrams_tell_the_same None recording = refl
-first_datagrams_tell_the_same (Some datagram) recording = sym (take_acts sample_acts.samples_told [] (datagram - 1) (fragment_walk.sending_of recording)) ∙ ap sample_acts.acts_with_samples (sent_until (Some datagram) recording)
-
 taken_there : {X : Type 0} (n : ℕ) (xs : List X) (x : X) → Contains (take n xs) x → Contains xs x
 taken_there n xs x h = grind (arith, nat_tests, common_steps)
 
@@ -399,10 +383,10 @@ first_datagrams_tell_alike from writer reader None recording parts = acts_tell_a
 first_datagrams_tell_alike from writer reader (Some until) recording parts =
     let n = until - 1 in
     let first = take n recording in
-    subst (λ (acts : List (List receiver_values.ActValue)). laws.TellsAlike from (sample_acts.fragment_speech_of writer reader first) (audit_speech.speech_by writer reader acts)) (take_acts sample_acts.samples_told [] n recording)
+    subst (λ (acts : List (List receiver_values.ActValue)). laws.TellsAlike from (sample_acts.fragment_speech_of writer reader first) (audit_speech.speech_by writer reader acts)) (take_acts (sample_acts.samples_told reader) [] n recording)
     (acts_tell_alike from writer reader first (λ datagram part piece there among is. parts datagram part piece (taken_there n recording datagram there) among is))
 
 -- ---- no pieces
 
 pub acts_stay_without_pieces : laws.ActsStayWithoutPieces
-acts_stay_without_pieces recording none = all_stay sample_acts.samples_told (λ before act. refl) [] recording none
+acts_stay_without_pieces reader recording none = all_stay (sample_acts.samples_told reader) (λ before act. refl) [] recording none

@@ -25,7 +25,7 @@ use Rattle.rtps_fragments.specs.Samples as samples
 use Rattle.rtps_fragments.specs.SampleActs as sample_acts
 use Rattle.rtps_fragments.specs.SamplesSent as samples_sent
 use Rattle.rtps_fragments.proofs.ActsTell.{announcer_named}
-use Rattle.rtps_fragments.proofs.Audiences.{flat_from, flat_has, own_entity, own_prefix}
+use Rattle.rtps_fragments.proofs.Lists.{flat_from, flat_has, own_entity, own_prefix}
 use Rattle.rtps_fragments.proofs.HeardLemmas.{IsToldBy, heard-append, heard-cons, heard_one, one_more}
 use Rattle.rtps_fragments.proofs.MergingLemmas.{if_among}
 use Rattle.rtps_fragments.proofs.SampleActLemmas.{NamesItsWriter, spoken_is_origin}

@@ -13,7 +13,7 @@ use Rattle.rtps_wire.specs.DataFrag as data_frag
 use Rattle.rtps_fragments.specs.FragmentDelivery as fragment_delivery
 use Rattle.rtps_fragments.specs.Samples as samples
 use Rattle.rtps_fragments.specs.SampleActs as sample_acts
-use Rattle.rtps_fragments.proofs.Audiences.{flat_from, flat_has}
+use Rattle.rtps_fragments.proofs.Lists.{flat_from, flat_has}
 use Rattle.rtps_fragments.proofs.ToldLemmas.{come_or_told}
 
 -- the fragments of the acts that pass a test

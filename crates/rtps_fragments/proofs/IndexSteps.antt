@@ -31,19 +31,17 @@ use Rattle.rtps_wire.specs.FragmentItem as fragment_item
 use Rattle.rtps_fragments.specs.FragmentWalk as fragment_walk
 use Rattle.rtps_fragments.specs.ToldSamples as told_samples
 use Rattle.rtps_fragments.specs.Whole as whole
-use Rattle.rtps_fragments.specs.declared.merging.SampleForm.{SampleForm}
 use Rattle.rtps_fragments.specs.declared.told_sample.ToldSample.{ToldSample}
 use Rattle.rtps_fragments.proofs.ActsAnd.{length-acts, next_acts}
-use Rattle.rtps_fragments.proofs.Audiences.{flat_from}
+use Rattle.rtps_fragments.proofs.Lists.{flat_from}
 use Rattle.rtps_fragments.proofs.KeptLemmas.{length-parts_in}
-use Rattle.rtps_fragments.proofs.MergingLemmas.{AreFragmentActs, TellsAs, merged_is, sent_all, told_as_samples}
-use Rattle.rtps_fragments.proofs.NoteLemmas.{noted_as_samples, overhears}
+use Rattle.rtps_fragments.proofs.MergingLemmas.{AreFragmentActs, merged_is, sent_all}
 use Rattle.rtps_fragments.proofs.SampleSteps.{octets_of, sending_next, told_there}
 use Rattle.rtps_fragments.proofs.WholeLemmas.{all_alike, left_alike}
 
 -- ---- the pieces of a recording are of DATA_FRAG
 
-gathered_from : {X : Type 0} (gives : State → wire_values.ItemValue → List X) (start : State) (before items : List wire_values.ItemValue) (x : X) → Contains (acts.gathered gives start before items) x → (state : State) × (item : wire_values.ItemValue) × Contains (gives state item) x
+pub gathered_from : {X : Type 0} (gives : State → wire_values.ItemValue → List X) (start : State) (before items : List wire_values.ItemValue) (x : X) → Contains (acts.gathered gives start before items) x → (state : State) × (item : wire_values.ItemValue) × Contains (gives state item) x
 gathered_from gives start before [] x among = absurd (contains_none x among)
 gathered_from gives start before (item ∷ items) x among = elim (Contains-append_cases (gives (acts.state_behind start before) item) (acts.gathered gives start (before ++ item ∷ []) items) x among) [
   | inl here ↦ (acts.state_behind start before, item, here)
@@ -126,7 +124,7 @@ abbrev pub taken : List (Bor (List ℕ)) → ℕ → intake.Intake
 taken xs i =
     record {
       tallies = map (recorded_samples.tally_with (sample_acts.piece_acts_in (fragment_walk.sending_of (octets_of xs)))) (octets_of (take i xs));
-      acts = sample_acts.acts_with_samples (fragment_walk.sending_of (octets_of (take i xs)));
+      acts = sample_acts.acts_sent (fragment_walk.sending_of (octets_of (take i xs)));
       announcing = announcing.announcing_with (fragment_walk.sending_of (octets_of (take i xs)));
     }
 
@@ -149,13 +147,12 @@ module _ (xs : List (Bor (List ℕ))) (i : ℕ) (d : Bor (List ℕ)) (lt : i < l
   so_far = take-map fragment_walk.piece_acts_of i (octets_of xs) ∙ ap (map fragment_walk.piece_acts_of) (take-map (λ (datagram : Bor (List ℕ)). datagram.now) i xs)
 
   -- the acts of a datagram with what they tell among them
-  merged_here : (form : SampleForm) (tell : List told_samples.SentValue → told_samples.SentValue → List told_samples.ToldValue) (others : List sample_acts.PieceAct → receiver_values.ActValue → Option fragment_delivery.Piece → List receiver_values.ActValue) → TellsAs form tell others → (told : List told_samples.ToldValue)
-      → slice_get (recorded_samples.by_datagram tell [] (fragment_walk.sending_of (octets_of xs))) i ≡ Some told
-      → merging.merged_from form 0 (map (λ one. one.act) (fragment_walk.piece_acts_of (get_or xs i d).now)) told ≡ sample_acts.acts_and others (sample_acts.piece_acts_in (fragment_walk.sending_of (octets_of (take i xs)))) (fragment_walk.piece_acts_of (get_or xs i d).now)
-  merged_here form tell others tells told at =
-      let same : told ≡ told_samples.in_turn tell (merging.sents_in (take i sending)) (merging.sents_from 0 (fragment_walk.piece_acts_of octets)) = one_item _ _ (sym at ∙ told_there tell [] sending i (fragment_walk.piece_acts_of octets) there) in
-      ap (merging.merged_from form 0 (map (λ (one : sample_acts.PieceAct). one.act) (fragment_walk.piece_acts_of octets))) (same ∙ ap (λ (r : List (List sample_acts.PieceAct)). told_samples.in_turn tell (merging.sents_in r) (merging.sents_from 0 (fragment_walk.piece_acts_of octets))) so_far)
-      ∙ merged_is form tell others tells (sample_acts.piece_acts_in (fragment_walk.sending_of (octets_of (take i xs)))) (merging.sents_in (fragment_walk.sending_of (octets_of (take i xs)))) (sent_all (fragment_walk.sending_of (octets_of (take i xs))) (fragments_of_recording (octets_of (take i xs))))
+  merged_here : (told : List told_samples.ToldValue) → slice_get (recorded_samples.overheard_from [] (fragment_walk.sending_of (octets_of xs))) i ≡ Some told
+      → merging.merged_from 0 (map (λ one. one.act) (fragment_walk.piece_acts_of (get_or xs i d).now)) told ≡ sample_acts.acts_and announcing.notes_told (sample_acts.piece_acts_in (fragment_walk.sending_of (octets_of (take i xs)))) (fragment_walk.piece_acts_of (get_or xs i d).now)
+  merged_here told at =
+      let same : told ≡ told_samples.overheard_in_turn (merging.sents_in (take i sending)) (merging.sents_from 0 (fragment_walk.piece_acts_of octets)) = one_item _ _ (sym at ∙ told_there [] sending i (fragment_walk.piece_acts_of octets) there) in
+      ap (merging.merged_from 0 (map (λ (one : sample_acts.PieceAct). one.act) (fragment_walk.piece_acts_of octets))) (same ∙ ap (λ (r : List (List sample_acts.PieceAct)). told_samples.overheard_in_turn (merging.sents_in r) (merging.sents_from 0 (fragment_walk.piece_acts_of octets))) so_far)
+      ∙ merged_is (sample_acts.piece_acts_in (fragment_walk.sending_of (octets_of (take i xs)))) (merging.sents_in (fragment_walk.sending_of (octets_of (take i xs)))) (sent_all (fragment_walk.sending_of (octets_of (take i xs))) (fragments_of_recording (octets_of (take i xs))))
       0 (fragment_walk.piece_acts_of octets) (fragments_of_datagram octets)
     where
       one_item : {X : Type 0} (x y : X) → Some x ≡ Some y → x ≡ y
@@ -165,7 +162,7 @@ module _ (xs : List (Bor (List ℕ))) (i : ℕ) (d : Bor (List ℕ)) (lt : i < l
   pub tallied_here : whole.tally_left (merging.sents_in (fragment_walk.sending_of (octets_of xs))) (get_or xs i d).now ≡ recorded_samples.tally_with (sample_acts.piece_acts_in (fragment_walk.sending_of (octets_of xs))) (get_or xs i d).now
   tallied_here =
       let frags = fragments_of_recording (octets_of xs) in
-      let heard = overhears (sample_acts.piece_acts_in sending) (merging.sents_in sending) (sent_all sending frags) in
+      let heard = sent_all sending frags in
       ap (λ n. whole.tally_with_fragments (tally.tally_of (reading.reading_of octets)) (fragment_walk.unusable_in octets + n))
       (left_alike (sample_acts.piece_acts_in sending) (merging.sents_in sending) heard (λ number. all_alike (sample_acts.piece_acts_in sending) (merging.sents_in sending) heard number sending frags) 0 (fragment_walk.piece_acts_of octets))
 
@@ -174,14 +171,14 @@ module _ (xs : List (Bor (List ℕ))) (i : ℕ) (d : Bor (List ℕ)) (lt : i < l
       ap (λ ys. map f (octets_of ys)) (take_more xs i d lt) ∙ ap (map f) (map-append (λ (datagram : Bor (List ℕ)). datagram.now) (take i xs) (get_or xs i d ∷ [])) ∙ map-append f (octets_of (take i xs)) (octets ∷ [])
 
   -- what is taken in, with one datagram more
-  pub taken_more : (told noted : List told_samples.ToldValue) → slice_get (recorded_samples.by_datagram told_samples.told_behind [] (fragment_walk.sending_of (octets_of xs))) i ≡ Some told
-      → slice_get (recorded_samples.by_datagram told_samples.overheard_behind [] (fragment_walk.sending_of (octets_of xs))) i ≡ Some noted
-      → intake.intake_more (taken xs i) (whole.tally_left (merging.sents_in (fragment_walk.sending_of (octets_of xs))) (get_or xs i d).now) (merging.merged_from SampleForm.ForAudience 0 (map (λ one. one.act) (fragment_walk.piece_acts_of (get_or xs i d).now)) told) (merging.merged_from SampleForm.ForEveryone 0 (map (λ one. one.act) (fragment_walk.piece_acts_of (get_or xs i d).now)) noted) ≡ taken xs (i + 1)
-  taken_more told noted at also =
-      let announced = merging.merged_from SampleForm.ForEveryone 0 (map (λ (one : sample_acts.PieceAct). one.act) (fragment_walk.piece_acts_of octets)) noted in
-      let one : List Tally → intake.Intake = λ t. record { tallies = t; acts = (taken xs i).acts ++ merging.merged_from SampleForm.ForAudience 0 (map (λ (one : sample_acts.PieceAct). one.act) (fragment_walk.piece_acts_of octets)) told ∷ []; announcing = (taken xs i).announcing ++ announced ∷ [] } in
+  pub taken_more : (noted : List told_samples.ToldValue) → slice_get (recorded_samples.overheard_from [] (fragment_walk.sending_of (octets_of xs))) i ≡ Some noted
+      → intake.intake_more (taken xs i) (whole.tally_left (merging.sents_in (fragment_walk.sending_of (octets_of xs))) (get_or xs i d).now) (map (λ one. one.act) (fragment_walk.piece_acts_of (get_or xs i d).now)) (merging.merged_from 0 (map (λ one. one.act) (fragment_walk.piece_acts_of (get_or xs i d).now)) noted) ≡ taken xs (i + 1)
+  taken_more noted at =
+      let own = map (λ (one : sample_acts.PieceAct). one.act) (fragment_walk.piece_acts_of octets) in
+      let announced = merging.merged_from 0 own noted in
+      let one : List Tally → intake.Intake = λ t. record { tallies = t; acts = (taken xs i).acts ++ own ∷ []; announcing = (taken xs i).announcing ++ announced ∷ [] } in
       let two : List (List receiver_values.ActValue) → intake.Intake = λ a. record { tallies = (taken xs (i + 1)).tallies; acts = a; announcing = (taken xs i).announcing ++ announced ∷ [] } in
       let three : List (List receiver_values.ActValue) → intake.Intake = λ a. record { tallies = (taken xs (i + 1)).tallies; acts = (taken xs (i + 1)).acts; announcing = a } in
       ap one (ap (λ t. (taken xs i).tallies ++ t ∷ []) tallied_here ∙ sym (read_next (recorded_samples.tally_with (sample_acts.piece_acts_in sending))))
-      ∙ ap two (ap (λ a. (taken xs i).acts ++ a ∷ []) (merged_here SampleForm.ForAudience told_samples.told_behind sample_acts.samples_told told_as_samples told at) ∙ sym (ap sample_acts.acts_with_samples (sending_next xs i d lt) ∙ next_acts sample_acts.samples_told [] (fragment_walk.sending_of (octets_of (take i xs))) (fragment_walk.piece_acts_of octets)))
-      ∙ ap three (ap (λ a. (taken xs i).announcing ++ a ∷ []) (merged_here SampleForm.ForEveryone told_samples.overheard_behind announcing.notes_told noted_as_samples noted also) ∙ sym (ap announcing.announcing_with (sending_next xs i d lt) ∙ next_acts announcing.notes_told [] (fragment_walk.sending_of (octets_of (take i xs))) (fragment_walk.piece_acts_of octets)))
+      ∙ ap two (sym (ap sample_acts.acts_sent (sending_next xs i d lt) ∙ map-append (map (λ (one : sample_acts.PieceAct). one.act)) (fragment_walk.sending_of (octets_of (take i xs))) (fragment_walk.piece_acts_of octets ∷ [])))
+      ∙ ap three (ap (λ a. (taken xs i).announcing ++ a ∷ []) (merged_here noted at) ∙ sym (ap announcing.announcing_with (sending_next xs i d lt) ∙ next_acts announcing.notes_told [] (fragment_walk.sending_of (octets_of (take i xs))) (fragment_walk.piece_acts_of octets)))

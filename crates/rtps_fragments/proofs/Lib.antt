@@ -9,9 +9,8 @@ pub mod PutTogether
 pub mod FragmentsBefore
 pub mod AlikeBySamples
 pub mod SamplesTell
-pub mod Audiences
+pub mod Lists
 pub mod HeardLemmas
-pub mod AudienceNewsLemmas
 pub mod SampleActLemmas
 pub mod ActsAnd
 pub mod ActsTell
@@ -19,8 +18,11 @@ pub mod PiecesLeft
 pub mod Noted
 pub mod FewFragments
 pub mod SamplesAlone
+pub mod HearingLemmas
+pub mod ViewLemmas
+pub mod PlainPairs
+pub mod SampleReportLemmas
 pub mod KeptLemmas
-pub mod ListenerLemmas
 pub mod OkLemmas
 pub mod ToldSampleLemmas
 pub mod OverheardLemmas
@@ -28,12 +30,12 @@ pub mod ToldSoFar
 pub mod NumberLemmas
 pub mod MakingLemmas
 pub mod MergingLemmas
-pub mod NoteLemmas
 pub mod Announced
 pub mod MergedSteps
 pub mod FragmentWalkLemmas
 pub mod SampleSteps
 pub mod WholeLemmas
+pub mod SampleCountLemmas
 pub mod IndexSteps
 pub mod FragmentCounts
 pub mod WithoutFragments

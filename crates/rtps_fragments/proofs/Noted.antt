@@ -15,7 +15,7 @@ use Rattle.rtps_fragments.specs.Samples as samples
 use Rattle.rtps_fragments.specs.SampleActs as sample_acts
 use Rattle.rtps_fragments.specs.SamplesSent as samples_sent
 use Rattle.rtps_fragments.proofs.ActsTell.{announcer_named}
-use Rattle.rtps_fragments.proofs.Audiences.{flat_from}
+use Rattle.rtps_fragments.proofs.Lists.{flat_from}
 use Rattle.rtps_fragments.proofs.HeardLemmas.{heard_from}
 use Rattle.rtps_fragments.proofs.PiecesLeft.{of_its_piece, sent_within}
 use Rattle.rtps_fragments.proofs.PutTogether.{came_within, parts_picked, payloads_differ, put_of}

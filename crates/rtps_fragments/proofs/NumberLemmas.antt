@@ -15,7 +15,7 @@ use Rattle.rtps_fragments.specs.ToldSamples as told_samples
 use Rattle.rtps_fragments.specs.Whole as whole
 use Rattle.rtps_fragments.specs.declared.piece.SampleKey.{SampleKey}
 use Rattle.rtps_fragments.specs.declared.whole.SampleNumber.{SampleNumber}
-use Rattle.rtps_fragments.proofs.Audiences.{any_from, any_of}
+use Rattle.rtps_fragments.proofs.Lists.{any_from, any_of}
 use Rattle.rtps_fragments.proofs.OverheardLemmas.{other_sample, overheard-more}
 use Rattle.rtps_fragments.proofs.SampleLemmas.{samples_grow}
 use Rattle.rtps_fragments.proofs.ToldSampleLemmas.{eq_then, guid_is, guids_total, number_is, own_eq, own_sample, sample_is}

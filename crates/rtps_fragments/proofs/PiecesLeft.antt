@@ -22,7 +22,7 @@ use Rattle.rtps_audit.specs.Speech as audit_speech
 use Rattle.rtps_fragments.specs.SampleActs as sample_acts
 use Rattle.rtps_fragments.specs.SamplesSent as samples_sent
 use Rattle.rtps_fragments.proofs.ActsTell.{fragment_bounds}
-use Rattle.rtps_fragments.proofs.Audiences.{any_from, flat_from}
+use Rattle.rtps_fragments.proofs.Lists.{any_from, flat_from}
 use Rattle.rtps_fragments.proofs.HeardLemmas.{heard_from}
 use Rattle.rtps_fragments.proofs.PutTogether.{EachOf, IsWithin, put_of, some_of_shape}
 
@@ -35,7 +35,7 @@ pub verdict_stays : laws.FragmentVerdictOfActs → laws.ActsStayWithoutPieces �
 verdict_stays of_acts stay from writer reader recording verdict none =
     subst (λ acts. (fragment_verdict.IsFragmentVerdictFrom from (sample_acts.fragment_speech_of writer reader recording) verdict → run_verdict.IsVerdictFrom from (audit_speech.speech_by writer reader acts) verdict)
     × (run_verdict.IsVerdictFrom from (audit_speech.speech_by writer reader acts) verdict → fragment_verdict.IsFragmentVerdictFrom from (sample_acts.fragment_speech_of writer reader recording) verdict))
-    (stay recording none)
+    (stay reader recording none)
     (of_acts from writer reader recording verdict (no_parts recording none))
 
 -- ---- pieces of no sample

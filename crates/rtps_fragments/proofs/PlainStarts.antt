@@ -27,14 +27,14 @@ nothing_sent : (octets : List ℕ) → (tally.tally_of (reading.reading_of octet
 nothing_sent octets none = ap (merging.sents_from 0) (datagram_plain octets none) ∙ plain_sends 0 (acts.acts_of (reading.reading_of octets))
 
 -- what is told behind them
-behind : (tell : List told_samples.SentValue → told_samples.SentValue → List told_samples.ToldValue) (recording : List (List ℕ)) (n i j : ℕ) → EachWithout (take n recording) → i ≡ n + j
-    → slice_get (recorded_samples.by_datagram tell [] (fragment_walk.sending_of recording)) i ≡ slice_get (recorded_samples.by_datagram tell [] (fragment_walk.sending_of (drop n recording))) j
-behind tell recording zero i j none e = ap (slice_get (recorded_samples.by_datagram tell [] (fragment_walk.sending_of recording))) (let same : i ≡ j = omega (arith, e) in same)
-behind tell [] (suc n) i j none e = refl
-behind tell (octets ∷ recording) (suc n) zero j none e = absurd (omega (arith, e))
-behind tell (octets ∷ recording) (suc n) (suc i) j none e =
-    ap (λ (ss : List told_samples.SentValue). slice_get (recorded_samples.by_datagram tell ss (fragment_walk.sending_of recording)) i) (nothing_sent octets (none octets (contains_head octets (take n recording))))
-    ∙ behind tell recording n i j (λ other among. none other (contains_tail octets (take n recording) other among)) (omega (arith, e))
+behind : (recording : List (List ℕ)) (n i j : ℕ) → EachWithout (take n recording) → i ≡ n + j
+    → slice_get (recorded_samples.overheard_from [] (fragment_walk.sending_of recording)) i ≡ slice_get (recorded_samples.overheard_from [] (fragment_walk.sending_of (drop n recording))) j
+behind recording zero i j none e = ap (slice_get (recorded_samples.overheard_from [] (fragment_walk.sending_of recording))) (let same : i ≡ j = omega (arith, e) in same)
+behind [] (suc n) i j none e = refl
+behind (octets ∷ recording) (suc n) zero j none e = absurd (omega (arith, e))
+behind (octets ∷ recording) (suc n) (suc i) j none e =
+    ap (λ (ss : List told_samples.SentValue). slice_get (recorded_samples.overheard_from ss (fragment_walk.sending_of recording)) i) (nothing_sent octets (none octets (contains_head octets (take n recording))))
+    ∙ behind recording n i j (λ other among. none other (contains_tail octets (take n recording) other among)) (omega (arith, e))
 
 -- all that is sent is sent behind them
 sent_behind : (recording : List (List ℕ)) (n : ℕ) → EachWithout (take n recording) → merging.sents_in (fragment_walk.sending_of recording) ≡ merging.sents_in (fragment_walk.sending_of (drop n recording))
@@ -51,12 +51,9 @@ module _ (recording : List (List ℕ)) (n : ℕ) (samples : Samples) (without : 
   pub whole_behind : whole.AreWholeIn (merging.sents_in (fragment_walk.sending_of recording)) samples.whole
   whole_behind = subst (λ (ss : List told_samples.SentValue). whole.AreWholeIn ss samples.whole) (sym (sent_behind recording n (each_of (take n recording) without))) are.whole
 
-  pub told_count : length samples.told.items ≡ length (drop n recording)
-  told_count = grind (arith, nat_tests, common_steps, length-map, length-told)
-
   pub overheard_count : length samples.overheard.items ≡ length (drop n recording)
   overheard_count = grind (arith, nat_tests, common_steps, length-map, length-told)
 
-  pub past : (tell : List told_samples.SentValue → told_samples.SentValue → List told_samples.ToldValue) (i : ℕ) → n ≤ i
-      → slice_get (recorded_samples.by_datagram tell [] (fragment_walk.sending_of recording)) i ≡ slice_get (recorded_samples.by_datagram tell [] (fragment_walk.sending_of (drop n recording))) (i - n)
-  past tell i le = behind tell recording n i (i - n) (each_of (take n recording) without) (omega (arith, le))
+  pub past : (i : ℕ) → n ≤ i
+      → slice_get (recorded_samples.overheard_from [] (fragment_walk.sending_of recording)) i ≡ slice_get (recorded_samples.overheard_from [] (fragment_walk.sending_of (drop n recording))) (i - n)
+  past i le = behind recording n i (i - n) (each_of (take n recording) without) (omega (arith, le))

@@ -20,24 +20,23 @@ pub sents_next : (recording : List (List sample_acts.PieceAct)) (acts : List sam
 sents_next recording acts = flat_map-append (merging.sents_from 0) recording (acts ∷ []) ∙ ap (λ ss. merging.sents_in recording ++ ss) (append-nil (merging.sents_from 0 acts))
 
 -- what the datagrams tell, with one more
-module _ (tell : List told_samples.SentValue → told_samples.SentValue → List told_samples.ToldValue) where
-  pub next_datagram : (before : List told_samples.SentValue) (recording : List (List sample_acts.PieceAct)) (acts : List sample_acts.PieceAct)
-      → recorded_samples.by_datagram tell before (recording ++ acts ∷ []) ≡ recorded_samples.by_datagram tell before recording ++ told_samples.in_turn tell (before ++ merging.sents_in recording) (merging.sents_from 0 acts) ∷ []
-  next_datagram before [] acts = ap (λ ss. told_samples.in_turn tell ss (merging.sents_from 0 acts) ∷ []) (sym (append-nil before))
-  next_datagram before (first ∷ recording) acts =
-      ap (λ ts. told_samples.in_turn tell before (merging.sents_from 0 first) ∷ ts) (next_datagram (before ++ merging.sents_from 0 first) recording acts)
-      ∙ ap (λ ss. recorded_samples.by_datagram tell before (first ∷ recording) ++ told_samples.in_turn tell ss (merging.sents_from 0 acts) ∷ []) (append_assoc before (merging.sents_from 0 first) (merging.sents_in recording))
+pub next_datagram : (before : List told_samples.SentValue) (recording : List (List sample_acts.PieceAct)) (acts : List sample_acts.PieceAct)
+    → recorded_samples.overheard_from before (recording ++ acts ∷ []) ≡ recorded_samples.overheard_from before recording ++ told_samples.overheard_in_turn (before ++ merging.sents_in recording) (merging.sents_from 0 acts) ∷ []
+next_datagram before [] acts = ap (λ ss. told_samples.overheard_in_turn ss (merging.sents_from 0 acts) ∷ []) (sym (append-nil before))
+next_datagram before (first ∷ recording) acts =
+    ap (λ ts. told_samples.overheard_in_turn before (merging.sents_from 0 first) ∷ ts) (next_datagram (before ++ merging.sents_from 0 first) recording acts)
+    ∙ ap (λ ss. recorded_samples.overheard_from before (first ∷ recording) ++ told_samples.overheard_in_turn ss (merging.sents_from 0 acts) ∷ []) (append_assoc before (merging.sents_from 0 first) (merging.sents_in recording))
 
-  -- what one of them tells
-  pub told_there : (before : List told_samples.SentValue) (recording : List (List sample_acts.PieceAct)) (i : ℕ) (acts : List sample_acts.PieceAct) → slice_get recording i ≡ Some acts
-      → slice_get (recorded_samples.by_datagram tell before recording) i ≡ Some (told_samples.in_turn tell (before ++ merging.sents_in (take i recording)) (merging.sents_from 0 acts))
-  told_there before [] i acts e = cc
-  told_there before (first ∷ recording) zero acts e =
-      let is : first ≡ acts = (let h = e in cc) in
-      ap Some (ap (λ ss. told_samples.in_turn tell ss (merging.sents_from 0 first)) (sym (append-nil before)) ∙ ap (λ a. told_samples.in_turn tell (before ++ []) (merging.sents_from 0 a)) is)
-  told_there before (first ∷ recording) (suc i) acts e =
-      told_there (before ++ merging.sents_from 0 first) recording i acts e ∙ ap (λ ss. Some (told_samples.in_turn tell ss (merging.sents_from 0 acts))) (append_assoc before (merging.sents_from 0 first) (merging.sents_in (take i recording)))
+-- what one of them tells
+pub told_there : (before : List told_samples.SentValue) (recording : List (List sample_acts.PieceAct)) (i : ℕ) (acts : List sample_acts.PieceAct) → slice_get recording i ≡ Some acts
+    → slice_get (recorded_samples.overheard_from before recording) i ≡ Some (told_samples.overheard_in_turn (before ++ merging.sents_in (take i recording)) (merging.sents_from 0 acts))
+told_there before [] i acts e = cc
+told_there before (first ∷ recording) zero acts e =
+    let is : first ≡ acts = (let h = e in cc) in
+    ap Some (ap (λ ss. told_samples.overheard_in_turn ss (merging.sents_from 0 first)) (sym (append-nil before)) ∙ ap (λ a. told_samples.overheard_in_turn (before ++ []) (merging.sents_from 0 a)) is)
+told_there before (first ∷ recording) (suc i) acts e =
+    told_there (before ++ merging.sents_from 0 first) recording i acts e ∙ ap (λ ss. Some (told_samples.overheard_in_turn ss (merging.sents_from 0 acts))) (append_assoc before (merging.sents_from 0 first) (merging.sents_in (take i recording)))
 
-  pub length-told : (before : List told_samples.SentValue) (recording : List (List sample_acts.PieceAct)) → length (recorded_samples.by_datagram tell before recording) ≡ length recording
-  length-told before [] = refl
-  length-told before (acts ∷ recording) = ap suc (length-told (before ++ merging.sents_from 0 acts) recording)
+pub length-told : (before : List told_samples.SentValue) (recording : List (List sample_acts.PieceAct)) → length (recorded_samples.overheard_from before recording) ≡ length recording
+length-told before [] = refl
+length-told before (acts ∷ recording) = ap suc (length-told (before ++ merging.sents_from 0 acts) recording)

@@ -8,9 +8,11 @@ use Rattle.std.proofs.lemmas.Cmp.{nat_cmp_total, nat_list_cmp_total, on_total, t
 use Rattle.std.proofs.lemmas.Map.Text.{is_eq-slice_cmp}
 use Rattle.rtps_ids.specs.declared.identity.Guid.{Guid}
 use Rattle.rtps_discovery.specs.GuidOrder as guid_order
+use Rattle.rtps_audit.specs.Placed as placed
+use Rattle.rtps_audit.proofs.Offered.{is_eq-guid_cmp}
 use Rattle.rtps_fragments.specs.ToldSamples as told_samples
 use Rattle.rtps_fragments.specs.declared.piece.SampleKey.{SampleKey}
-use Rattle.rtps_fragments.proofs.Audiences.{entity_is, prefix_is}
+use Rattle.rtps_fragments.proofs.Lists.{entity_is, prefix_is}
 use Rattle.rtps_fragments.proofs.KeptLemmas.{at_number}
 
 -- ---- orders
@@ -26,6 +28,9 @@ flag_is a b h = grind (arith, nat_tests)
 
 pub guid_is : (a b : Guid) → is_eq (guid_order.guid_cmp a b) ≡ true → a ≡ b
 guid_is a b e = search (rules, eq_then, prefix_is, is_eq-slice_cmp, entity_is)
+
+pub guid_same : (a b : Guid) → placed.is_guid a b ≡ true → a ≡ b
+guid_same a b e = guid_is a b (is_eq-guid_cmp a b ∙ e)
 
 pub sample_is : (a b : SampleKey) → told_samples.is_sample a b ≡ true → a ≡ b
 sample_is a b e =

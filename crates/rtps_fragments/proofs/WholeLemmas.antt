@@ -20,15 +20,14 @@ use Rattle.rtps_fragments.specs.SamplesSent as samples_sent
 use Rattle.rtps_fragments.specs.ToldSamples as told_samples
 use Rattle.rtps_fragments.specs.Whole as whole_spec
 use Rattle.rtps_fragments.specs.declared.whole.SampleNumber.{SampleNumber}
-use Rattle.rtps_fragments.proofs.MergingLemmas.{AreFragmentActs, named, sent_by_act, spoken_by_own}
-use Rattle.rtps_fragments.proofs.NoteLemmas.{Overhears}
+use Rattle.rtps_fragments.proofs.MergingLemmas.{AreSent, AreFragmentActs, named, sent_by_act, spoken_by_own}
 use Rattle.rtps_fragments.proofs.NumberLemmas.{own_number, same_number}
 use Rattle.rtps_fragments.proofs.SampleActLemmas.{spoken_is_origin}
 use Rattle.rtps_fragments.proofs.FragmentWalkLemmas.{one_of}
 
 -- ---- pieces of no sample
 
-module _ (all : List sample_acts.PieceAct) (sall : List told_samples.SentValue) (same : Overhears all sall) where
+module _ (all : List sample_acts.PieceAct) (sall : List told_samples.SentValue) (same : AreSent all sall) where
   put_alike : (one : sample_acts.PieceAct) (piece : fragment_delivery.Piece) → whole_spec.is_put sall (merging.key_of one.act piece) ≡ samples_sent.is_some_payload (samples.payloads_of piece.number piece.shape (samples_sent.sent_by (speech.origin_of one.act) all))
   put_alike one piece = grind (arith, nat_tests)
 

@@ -23,8 +23,7 @@ use Rattle.rtps_fragments.specs.RecordedSamples as recorded_samples
 use Rattle.rtps_fragments.specs.SampleActs as sample_acts
 use Rattle.rtps_fragments.specs.FragmentWalk as fragment_walk
 use Rattle.rtps_fragments.specs.Whole as whole
-use Rattle.rtps_fragments.proofs.ActsTell.{acts_stay_without_pieces}
-use Rattle.rtps_fragments.proofs.NoteLemmas.{announcing_stays}
+use Rattle.rtps_fragments.proofs.MergingLemmas.{announcing_stays}
 use Rattle.rtps_fragments.proofs.FragmentCounts.{no_more}
 use Rattle.rtps_fragments.proofs.SampleSteps.{octets_of}
 
@@ -110,15 +109,15 @@ all_acts_stay recording all = acts_in_plain recording (λ octets among. All-cont
 
 -- what an index with samples takes in of them, whatever all acts of their recording are
 pub taken_plain : (all : List sample_acts.PieceAct) (recording : List (List ℕ)) → EachWithout recording
-    → record { tallies = map (recorded_samples.tally_with all) recording; acts = sample_acts.acts_with_samples (fragment_walk.sending_of recording); announcing = announcing.announcing_with (fragment_walk.sending_of recording) } ≡ intake.intake_of recording
+    → record { tallies = map (recorded_samples.tally_with all) recording; acts = sample_acts.acts_sent (fragment_walk.sending_of recording); announcing = announcing.announcing_with (fragment_walk.sending_of recording) } ≡ intake.intake_of recording
 taken_plain all recording none =
     let plain_acts = acts_plain recording none in
     let tallies : List Tally = map (λ datagram. tally_spec.tally_of (reading.reading_of datagram)) recording in
     let said : List (List receiver_values.ActValue) → intake.Intake = λ acts. record { tallies = tallies; acts = acts; announcing = announcing.announcing_with (fragment_walk.sending_of recording) } in
     let noted : List (List receiver_values.ActValue) → intake.Intake = λ acts. record { tallies = tallies; acts = speech.acts_by_datagram recording; announcing = acts } in
     let sending = fragment_walk.sending_of recording in
-    let counted : List Tally → intake.Intake = λ t. record { tallies = t; acts = sample_acts.acts_with_samples sending; announcing = announcing.announcing_with sending } in
-    ap counted (tallies_stay all recording none) ∙ ap said (acts_stay_without_pieces (fragment_walk.sending_of recording) (no_pieces recording none) ∙ plain_acts) ∙ ap noted (announcing_stays (fragment_walk.sending_of recording) (no_pieces recording none) ∙ plain_acts)
+    let counted : List Tally → intake.Intake = λ t. record { tallies = t; acts = sample_acts.acts_sent sending; announcing = announcing.announcing_with sending } in
+    ap counted (tallies_stay all recording none) ∙ ap said plain_acts ∙ ap noted (announcing_stays (fragment_walk.sending_of recording) (no_pieces recording none) ∙ plain_acts)
 
 pub intake_stays : laws.IntakeStaysWithoutFragments
 intake_stays recording all = taken_plain (sample_acts.piece_acts_in (fragment_walk.sending_of recording)) recording (λ octets among. All-contains (λ datagram. (tally_spec.tally_of (reading.reading_of datagram)).fragments ≡ 0) recording octets all among)

@@ -1,6 +1,6 @@
 -- Laws over definitions alone, whatever the number is from which on numbers are asked for. own: what a reader of the definitions
 -- would ask of them.
-use Rattle.std.specs.Prelude.{ℕ, ◌+◌, ◌<◌, ◌≤◌, ◌≡◌, ◌≢◌, ◌↔◌, ◌⊎◌, length, List, [], map, Option, Some, None, is_some, false, true, drop, sum_by, All, Contains}
+use Rattle.std.specs.Prelude.{ℕ, ◌+◌, ◌<◌, ◌≤◌, ◌≡◌, ◌≢◌, ◌↔◌, ◌⊎◌, filter, length, List, [], map, Option, Some, None, is_some, false, true, drop, sum_by, All, Contains}
 use Rattle.rtps_ids.specs.declared.identity.EntityId.{EntityId}
 use Rattle.rtps_ids.specs.declared.identity.Guid.{Guid}
 use Rattle.rtps_wire.specs.DataFrag as data_frag
@@ -10,20 +10,22 @@ use Rattle.rtps_wire.specs.Values as wire_values
 use Rattle.rtps_receiver.specs.Acts as acts
 use Rattle.rtps_receiver.specs.Speech as receiver_speech
 use Rattle.rtps_receiver.specs.Values as receiver_values
-use Rattle.rtps_receiver.specs.declared.speech.Audience.{Audience}
 use Rattle.rtps_discovery.specs.Notice as notice
+use Rattle.rtps_discovery.specs.declared.matching.Pair.{Pair}
 use Rattle.rtps_audit.specs.Delivery as delivery
 use Rattle.rtps_audit.specs.RunVerdict as run_verdict
 use Rattle.rtps_audit.specs.PlainVerdict as plain_verdict
 use Rattle.rtps_audit.specs.Intake as intake
+use Rattle.rtps_audit.specs.Placed as placed
 use Rattle.rtps_audit.specs.Said as said
 use Rattle.rtps_audit.specs.Speech as audit_speech
+use Rattle.rtps_audit.specs.declared.said_between.Said.{Said}
 use Rattle.rtps_audit.specs.declared.verdict.Verdict.{Verdict}
 use Rattle.rtps_fragments.specs.Announcing as announcing
 use Rattle.rtps_fragments.specs.FragmentDelivery as fragment_delivery
 use Rattle.rtps_wire.specs.declared.data_frag.Shape.{Shape}
 use Rattle.rtps_fragments.specs.FragmentVerdict as fragment_verdict
-use Rattle.rtps_fragments.specs.Listeners as listeners
+use Rattle.rtps_fragments.specs.Hearing as hearing
 use Rattle.rtps_fragments.specs.RecordedSamples as recorded_samples
 use Rattle.rtps_fragments.specs.Samples as samples
 use Rattle.rtps_wire.specs.FragmentItem as fragment_item
@@ -74,46 +76,83 @@ pub record IsPieceAct (one : sample_acts.PieceAct) (piece : fragment_delivery.Pi
 abbrev pub ArePieceActs : List (List sample_acts.PieceAct) → Type 0
 ArePieceActs recording = (datagram : List sample_acts.PieceAct) (one : sample_acts.PieceAct) (piece : fragment_delivery.Piece) → Contains recording datagram → Contains datagram one → one.piece ≡ Some piece → IsPieceAct one piece
 
--- of any writer and reader, a recording with pieces and its acts with the samples among them tell alike
+-- of any writer and reader, a recording with pieces and what the reader hears of its acts tell alike
 abbrev pub ActsTellAlike : Type 0
 ActsTellAlike =
     (from : ℕ) (writer reader : Guid) (recording : List (List sample_acts.PieceAct)) → ArePieceActs recording
-    → TellsAlike from (sample_acts.fragment_speech_of writer reader recording) (audit_speech.speech_by writer reader (sample_acts.acts_with_samples recording))
+    → TellsAlike from (sample_acts.fragment_speech_of writer reader recording) (audit_speech.speech_by writer reader (sample_acts.told_to reader recording))
 
--- of any writer and reader, the verdict by runs that take fragments one by one is the verdict of the acts with the samples among them
+-- of any writer and reader, the verdict by runs that take fragments one by one is the verdict of what the reader hears of the acts
 abbrev pub FragmentVerdictOfActs : Type 0
 FragmentVerdictOfActs =
     (from : ℕ) (writer reader : Guid) (recording : List (List sample_acts.PieceAct)) (verdict : Verdict) → ArePieceActs recording
-    → fragment_verdict.IsFragmentVerdictFrom from (sample_acts.fragment_speech_of writer reader recording) verdict ↔ run_verdict.IsVerdictFrom from (audit_speech.speech_by writer reader (sample_acts.acts_with_samples recording)) verdict
+    → fragment_verdict.IsFragmentVerdictFrom from (sample_acts.fragment_speech_of writer reader recording) verdict ↔ run_verdict.IsVerdictFrom from (audit_speech.speech_by writer reader (sample_acts.told_to reader recording)) verdict
 
--- the same of the first datagrams, with the samples of the whole recording
+-- the same of the first datagrams, with what the reader hears of the whole recording
 abbrev pub FirstDatagramsTellAlike : Type 0
 FirstDatagramsTellAlike =
     (from : ℕ) (writer reader : Guid) (until : Option ℕ) (recording : List (List sample_acts.PieceAct)) → ArePieceActs recording
-    → TellsAlike from (sample_acts.fragment_speech_of writer reader (said.datagrams_until until recording)) (audit_speech.speech_by writer reader (said.datagrams_until until (sample_acts.acts_with_samples recording)))
+    → TellsAlike from (sample_acts.fragment_speech_of writer reader (said.datagrams_until until recording)) (audit_speech.speech_by writer reader (said.datagrams_until until (sample_acts.told_to reader recording)))
 
--- so the verdict by the first datagrams of what is taken in with samples is that by runs on the recording that ends there
+-- so the verdict by what the reader hears of the first datagrams of what is taken in is that by runs on the recording that ends there
 abbrev pub FirstDatagramsDecideSamples : Type 0
 FirstDatagramsDecideSamples =
     (from : ℕ) (writer reader : Guid) (until : Option ℕ) (recording : List (List ℕ)) (verdict : Verdict)
     → fragment_verdict.IsFragmentVerdictFrom from (sample_acts.fragment_speech_of writer reader (fragment_walk.sending_of (said.datagrams_until until recording))) verdict
-    ↔ run_verdict.IsVerdictFrom from (audit_speech.speech_by writer reader (said.datagrams_until until (recorded_samples.intake_with recording).acts)) verdict
+    ↔ run_verdict.IsVerdictFrom from (audit_speech.speech_by writer reader (hearing.heard_by reader (said.datagrams_until until (recorded_samples.intake_with recording).acts))) verdict
 
--- the acts of the first datagrams, each with the samples that it tells by what was sent before it
-abbrev pub first_acts_with_samples : Option ℕ → List (List ℕ) → List (List receiver_values.ActValue)
-first_acts_with_samples until recording = sample_acts.acts_with_samples (fragment_walk.sending_of (said.datagrams_until until recording))
+-- what the reader hears of the acts of the first datagrams, by what was sent before
+abbrev pub first_acts_heard : Guid → Option ℕ → List (List ℕ) → List (List receiver_values.ActValue)
+first_acts_heard reader until recording = sample_acts.told_to reader (fragment_walk.sending_of (said.datagrams_until until recording))
 
--- the first datagrams of what is taken in with samples have these acts
+-- it is what the reader hears of the first datagrams of what is taken in
 abbrev pub FirstDatagramsTellTheSame : Type 0
-FirstDatagramsTellTheSame = (until : Option ℕ) (recording : List (List ℕ)) → said.datagrams_until until (recorded_samples.intake_with recording).acts ≡ first_acts_with_samples until recording
+FirstDatagramsTellTheSame = (reader : Guid) (until : Option ℕ) (recording : List (List ℕ)) → hearing.heard_by reader (said.datagrams_until until (recorded_samples.intake_with recording).acts) ≡ first_acts_heard reader until recording
+
+-- what a reader hears of the first datagrams is the beginning of what it hears of all: what is sent later adds nothing to them
+abbrev pub FirstDatagramsAreHeardFirst : Type 0
+FirstDatagramsAreHeardFirst = (reader : Guid) (until : Option ℕ) (recording : List (List receiver_values.ActValue)) → hearing.heard_by reader (said.datagrams_until until recording) ≡ said.datagrams_until until (hearing.heard_by reader recording)
+
+-- what a reader hears of the acts of a recording as they are sent is what the recording tells it
+abbrev pub SentActsAreHeard : Type 0
+SentActsAreHeard = (reader : Guid) (recording : List (List ℕ)) → hearing.heard_by reader (sample_acts.acts_sent (fragment_walk.sending_of recording)) ≡ sample_acts.told_to reader (fragment_walk.sending_of recording)
+
+-- no act sends fragments
+abbrev pub SendNoFragments : List (List receiver_values.ActValue) → Type 0
+SendNoFragments recording = (datagram : List receiver_values.ActValue) (act : receiver_values.ActValue) → Contains recording datagram → Contains datagram act → hearing.sends_fragments act.body ≡ false
+
+-- where none does, each reader hears the acts as they are
+abbrev pub ActsAreHeardWithoutFragments : Type 0
+ActsAreHeardWithoutFragments = (reader : Guid) (recording : List (List receiver_values.ActValue)) → SendNoFragments recording → hearing.heard_by reader recording ≡ recording
+
+-- where no act of a writer sends fragments, the verdict on what a reader hears is the one on the acts as they are sent
+abbrev pub VerdictsStayWithoutFragments : Type 0
+VerdictsStayWithoutFragments =
+    (from : ℕ) (writer reader : Guid) (recording : List (List receiver_values.ActValue)) (verdict : Verdict) → hearing.have_fragments (filter (placed.is_from writer) (placed.placed_in recording)) ≡ false
+    → run_verdict.IsVerdictFrom from (audit_speech.speech_by writer reader (hearing.heard_by reader recording)) verdict ↔ run_verdict.IsVerdictFrom from (audit_speech.speech_by writer reader recording) verdict
+
+-- acts without fragments are overheard as they are
+abbrev pub OverheardWithoutFragments : Type 0
+OverheardWithoutFragments = (acts : List placed.PlacedValue) → hearing.have_fragments acts ≡ false → hearing.overheard_of acts ≡ acts
+
+-- where neither what a writer said nor what a reader asked sends fragments, that is what the reader hears
+abbrev pub PairsAreHeardWithoutFragments : Type 0
+PairsAreHeardWithoutFragments =
+    (pair : Pair) (recording : List (List receiver_values.ActValue)) (pair_said : Said) → said.IsSaid pair recording pair_said
+    → hearing.have_fragments (map placed.placed_value pair_said.acts.now) ≡ false → hearing.have_fragments (map placed.placed_value pair_said.asks.now) ≡ false
+    → said.IsSaid pair (hearing.heard_by pair.reader recording) pair_said
+
+-- no act of a recording whose fragments are skipped sends some
+abbrev pub SkippedFragmentsAreNotSent : Type 0
+SkippedFragmentsAreNotSent = (recording : List (List ℕ)) → SendNoFragments (intake.intake_of recording).acts
 
 -- no act has a piece
 abbrev pub HasNoPieces : List (List sample_acts.PieceAct) → Type 0
 HasNoPieces recording = (datagram : List sample_acts.PieceAct) (one : sample_acts.PieceAct) → Contains recording datagram → Contains datagram one → one.piece ≡ None
 
--- where no act has a piece, the acts are as they are
+-- where no act has a piece, each reader hears the acts as they are
 abbrev pub ActsStayWithoutPieces : Type 0
-ActsStayWithoutPieces = (recording : List (List sample_acts.PieceAct)) → HasNoPieces recording → sample_acts.acts_with_samples recording ≡ map (map (λ one. one.act)) recording
+ActsStayWithoutPieces = (reader : Guid) (recording : List (List sample_acts.PieceAct)) → HasNoPieces recording → sample_acts.told_to reader recording ≡ sample_acts.acts_sent recording
 
 -- where no act has a piece, the verdict by runs that take fragments is that of the acts as they are
 abbrev pub VerdictStaysWithoutPieces : Type 0
@@ -171,25 +210,26 @@ AnnouncersAreBuiltIn = (writer : EntityId) → is_some (notice.subject_of writer
 abbrev pub FewFragmentsMakeNoSample : Type 0
 FewFragmentsMakeNoSample = (n : ℕ) (shape : Shape) (fragments : List fragment_delivery.Fragment) → length fragments < data_frag.last_fragment shape → samples.payloads_of n shape fragments ≡ []
 
--- what an act tells of a sample depends on the acts with its pieces alone
+-- what an act tells a reader of a sample depends on the acts with its pieces alone
 abbrev pub SamplesStandAlone : Type 0
 SamplesStandAlone =
-    (before : List sample_acts.PieceAct) (act : receiver_values.ActValue) (piece : fragment_delivery.Piece)
-    → sample_acts.samples_told before act (Some piece) ≡ sample_acts.samples_told (sample_acts.acts_of_sample (receiver_speech.origin_of act) piece.number piece.shape before) act (Some piece)
+    (reader : Guid) (before : List sample_acts.PieceAct) (act : receiver_values.ActValue) (piece : fragment_delivery.Piece)
+    → sample_acts.samples_told reader before act (Some piece) ≡ sample_acts.samples_told reader (sample_acts.acts_of_sample (receiver_speech.origin_of act) piece.number piece.shape before) act (Some piece)
 
--- what fragments tell an audience, no wider one can put together
-abbrev pub NoneIsToldAgain : Type 0
-NoneIsToldAgain =
-    (last : ℕ) (hearing : listeners.AudienceNews) (offer : listeners.Offer) (audience : Audience) (octets : List ℕ) → Contains (listeners.tells last hearing offer) (audience, octets) → listeners.is_had last (listeners.hears hearing offer) audience octets ≡ false
+-- an act tells a reader nothing that it does not hear
+abbrev pub UnheardActsTellNothing : Type 0
+UnheardActsTellNothing =
+    (reader : Guid) (before : List sample_acts.PieceAct) (act : receiver_values.ActValue) (piece : Option fragment_delivery.Piece) → receiver_speech.is_heard_by act reader ≡ false → sample_acts.samples_told reader before act piece ≡ []
 
--- of any writer and reader of a recording, the verdict by runs that take fragments one by one is that of the acts with the samples among
--- them
+-- of any writer and reader of a recording, the verdict by runs that take fragments one by one is that of what the reader hears of the acts as
+-- they are sent
 abbrev pub RecordedVerdictIsOfRuns : Type 0
 RecordedVerdictIsOfRuns =
     (from : ℕ) (writer reader : Guid) (recording : List (List ℕ)) (verdict : Verdict)
-    → fragment_verdict.IsFragmentVerdictFrom from (sample_acts.fragment_speech_of writer reader (fragment_walk.sending_of recording)) verdict ↔ run_verdict.IsVerdictFrom from (audit_speech.speech_by writer reader (sample_acts.acts_with_samples (fragment_walk.sending_of recording))) verdict
+    → fragment_verdict.IsFragmentVerdictFrom from (sample_acts.fragment_speech_of writer reader (fragment_walk.sending_of recording)) verdict
+    ↔ run_verdict.IsVerdictFrom from (audit_speech.speech_by writer reader (hearing.heard_by reader (recorded_samples.intake_with recording).acts)) verdict
 
--- where no submessage belongs to fragments, an index with samples takes in what a plain one does
+-- where no submessage belongs to fragments, an index with fragments takes in what a plain one does
 abbrev pub IntakeStaysWithoutFragments : Type 0
 IntakeStaysWithoutFragments = (recording : List (List ℕ)) → recorded_samples.IsWithoutFragments recording → recorded_samples.intake_with recording ≡ intake.intake_of recording
 

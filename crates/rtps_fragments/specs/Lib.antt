@@ -11,7 +11,9 @@ pub mod ToldSamples
 pub mod Merging
 pub mod FragmentWalk
 pub mod RecordedSamples
-pub mod Listeners
+pub mod Hearing
+pub mod SampleReport
+pub mod SampleCounts
 pub mod Whole
 pub mod Making
 pub mod ReadDatagrams

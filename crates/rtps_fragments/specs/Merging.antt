@@ -9,7 +9,6 @@ use Rattle.rtps_fragments.specs.FragmentDelivery as fragment_delivery
 use Rattle.rtps_fragments.specs.SampleActs as sample_acts
 use Rattle.rtps_fragments.specs.SamplesSent as samples_sent
 use Rattle.rtps_fragments.specs.ToldSamples as told_samples
-use Rattle.rtps_fragments.specs.declared.merging.SampleForm.{SampleForm}
 use Rattle.rtps_fragments.specs.declared.piece.SampleKey.{SampleKey}
 
 -- the sample of which an act has a piece
@@ -19,7 +18,7 @@ key_of act piece =
 
 -- what an act at this place sends, where it has a piece
 abbrev pub sent_in : ℕ → values.ActValue → Option fragment_delivery.Piece → List told_samples.SentValue
-sent_in i act (Some piece) = record { act = i; key = key_of act piece; audience = sample_acts.sent_to_whom act; came = heard.came_from piece.first piece.parts } ∷ []
+sent_in i act (Some piece) = record { act = i; key = key_of act piece; came = heard.came_from piece.first piece.parts } ∷ []
 sent_in i act None = []
 
 -- what acts send, the first of which is at this place
@@ -31,19 +30,14 @@ sents_from i (one ∷ acts) = sent_in i one.act one.piece ++ sents_from (suc i) 
 abbrev pub sents_in : List (List sample_acts.PieceAct) → List told_samples.SentValue
 sents_in recording = flat_map (sents_from 0) recording
 
--- a sample that an act of this number tells, as an act: for its audience, or for everyone
-abbrev pub act_as : SampleForm → values.ActValue → ℕ → told_samples.ToldValue → values.ActValue
-act_as SampleForm.ForAudience act n one = sample_acts.sample_act act n one.audience one.payload
-act_as SampleForm.ForEveryone act n one = samples_sent.noted_act act n one.payload
-
--- the samples that an act with this body tells, as acts
-abbrev pub acts_told : SampleForm → values.ActValue → values.ActBodyValue → List told_samples.ToldValue → List values.ActValue
-acts_told form act (values.ActBodyValue.DataFrag value) told = map (act_as form act value.number) told
-acts_told form act (values.ActBodyValue.Data value) told = []
-acts_told form act (values.ActBodyValue.Heartbeat value) told = []
-acts_told form act (values.ActBodyValue.AckNack value) told = []
-acts_told form act (values.ActBodyValue.NackFrag value) told = []
-acts_told form act (values.ActBodyValue.Gap value) told = []
+-- the samples that an act with this body tells, each as a DATA for everyone
+abbrev pub acts_told : values.ActValue → values.ActBodyValue → List told_samples.ToldValue → List values.ActValue
+acts_told act (values.ActBodyValue.DataFrag value) told = map (λ one. samples_sent.noted_act act value.number one.payload) told
+acts_told act (values.ActBodyValue.Data value) told = []
+acts_told act (values.ActBodyValue.Heartbeat value) told = []
+acts_told act (values.ActBodyValue.AckNack value) told = []
+acts_told act (values.ActBodyValue.NackFrag value) told = []
+acts_told act (values.ActBodyValue.Gap value) told = []
 
 -- the first of these that the act at this place tells
 abbrev pub run_of : ℕ → List told_samples.ToldValue → List told_samples.ToldValue
@@ -56,9 +50,9 @@ run_past i [] = []
 run_past i (one ∷ told) = if one.act == i then run_past i told else one ∷ told
 
 -- acts, the first of which is at this place, and behind each the samples that it tells
-abbrev pub merged_from : SampleForm → ℕ → List values.ActValue → List told_samples.ToldValue → List values.ActValue
-merged_from form i [] told = []
-merged_from form i (act ∷ acts) told = act ∷ (acts_told form act act.body (run_of i told) ++ merged_from form (suc i) acts (run_past i told))
+abbrev pub merged_from : ℕ → List values.ActValue → List told_samples.ToldValue → List values.ActValue
+merged_from i [] told = []
+merged_from i (act ∷ acts) told = act ∷ (acts_told act act.body (run_of i told) ++ merged_from (suc i) acts (run_past i told))
 
 -- An act with a piece is a DATA_FRAG of the piece's number.
 pub record IsFragmentAct (one : sample_acts.PieceAct) (piece : fragment_delivery.Piece) : Type 0 where

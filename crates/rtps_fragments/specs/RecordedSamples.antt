@@ -1,5 +1,6 @@
--- The samples that a recording tells in fragments, datagram by datagram. DDSI-RTPS 2.5, 8.3.8.3 "DataFrag". own: a sample is told by the act
--- that completes it.
+-- What is taken in of a recording with fragments, and the samples of its built-in writers, datagram by datagram. DDSI-RTPS 2.5, 8.3.8.3
+-- "DataFrag". own: a sample is told by the act that completes it. An index has the acts as they are sent, and what one reader hears of
+-- them is found for this reader.
 use Rattle.std.specs.Prelude.{ℕ, ◌≡◌, ◌+◌, ◌<◌, ◌≤◌, All, List, [], ◌∷◌, ◌++◌, Some, length, map, slice_get, take}
 use Rattle.rtps_wire.specs.Reading as reading
 use Rattle.rtps_wire.specs.Tally as tally
@@ -17,15 +18,14 @@ use Rattle.rtps_fragments.specs.declared.fragments.Fragments.{Fragments}
 use Rattle.rtps_fragments.specs.declared.sample_index.PlainStart.{PlainStart}
 use Rattle.rtps_fragments.specs.declared.samples.Samples.{Samples}
 
--- what the acts of each datagram tell, behind what was sent before
-abbrev pub by_datagram : (List told_samples.SentValue → told_samples.SentValue → List told_samples.ToldValue) → List told_samples.SentValue → List (List sample_acts.PieceAct) → List (List told_samples.ToldValue)
-by_datagram tell before [] = []
-by_datagram tell before (acts ∷ recording) = told_samples.in_turn tell before (merging.sents_from 0 acts) ∷ by_datagram tell (before ++ merging.sents_from 0 acts) recording
+-- what the acts of each datagram tell a listener that hears everything, of built-in writers, behind what was sent before
+abbrev pub overheard_from : List told_samples.SentValue → List (List sample_acts.PieceAct) → List (List told_samples.ToldValue)
+overheard_from before [] = []
+overheard_from before (acts ∷ recording) = told_samples.overheard_in_turn before (merging.sents_from 0 acts) ∷ overheard_from (before ++ merging.sents_from 0 acts) recording
 
 -- These are the samples of a recording, which is the octets of its datagrams in the order of sending.
 pub record AreSamplesOf (recording : List (List ℕ)) (samples : Samples) : Type 0 where
-  pub told : map (λ told. map told_samples.told_value told.items) samples.told.items ≡ by_datagram told_samples.told_behind [] (fragment_walk.sending_of recording)
-  pub overheard : map (λ told. map told_samples.told_value told.items) samples.overheard.items ≡ by_datagram told_samples.overheard_behind [] (fragment_walk.sending_of recording)
+  pub overheard : map (λ told. map told_samples.told_value told.items) samples.overheard.items ≡ overheard_from [] (fragment_walk.sending_of recording)
   pub whole : whole.AreWholeOf recording samples.whole
 
 -- how many DATA_FRAG of a datagram are of no sample that is ever whole, among all acts of a recording: those that have no fragments that can
@@ -37,13 +37,13 @@ fragments_left all octets = fragment_walk.unusable_in octets + samples_sent.piec
 abbrev pub tally_with : List sample_acts.PieceAct → List ℕ → Tally
 tally_with all octets = whole.tally_with_fragments (tally.tally_of (reading.reading_of octets)) (fragments_left all octets)
 
--- what an index takes in of a recording with its samples: the acts with the samples among them, and those that announce with the samples of
--- built-in writers. The DATA_FRAG of no sample are counted
+-- what an index takes in of a recording where fragments are read: the acts as they are sent, and those that announce with the samples of
+-- built-in writers among them. The DATA_FRAG of no sample are counted
 abbrev pub intake_with : List (List ℕ) → intake.Intake
 intake_with recording =
     record {
       tallies = map (tally_with (sample_acts.piece_acts_in (fragment_walk.sending_of recording))) recording;
-      acts = sample_acts.acts_with_samples (fragment_walk.sending_of recording);
+      acts = sample_acts.acts_sent (fragment_walk.sending_of recording);
       announcing = announcing.announcing_with (fragment_walk.sending_of recording);
     }
 

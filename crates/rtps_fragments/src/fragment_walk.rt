@@ -11,7 +11,7 @@ ghost use Rattle.rtps_fragments.specs.ToldSamples as told_samples;
 
 use crate::piece::{FragmentRun, SampleKey, SentFragments};
 use rtps_ids::{Guid, Memory};
-use rtps_receiver::{Audience, FragmentBody, SentPart, Spoken, SpokenBody, State};
+use rtps_receiver::{FragmentBody, SentPart, Spoken, SpokenBody, State};
 use rtps_wire::{DataFrag, Item, Items, NackFrag, Tally};
 use std::alloc::Global;
 use std::slice;
@@ -48,7 +48,6 @@ fn sent_of<'a>(act: usize, state: &State, fragments: &DataFrag<'a>) -> SentFragm
         fragment = fragments.now.shape.fragment;
         is_key = fragments.now.shape.is_key;
       };
-      audience = record { dest = state.now.dest; reader = fragments.now.reader };
       came = heard.came_from fragments.now.first (data_frag.parts_of (data_frag.data_frag_value fragments.now));
     } }
 {
@@ -64,13 +63,9 @@ fn sent_of<'a>(act: usize, state: &State, fragments: &DataFrag<'a>) -> SentFragm
             fragment: fragments.shape.fragment,
             is_key: fragments.shape.is_key,
         },
-        audience: Audience {
-            dest: state.dest,
-            reader: fragments.reader,
-        },
         fragments: FragmentRun {
             first: fragments.first,
-            count: fragments.count,
+            count: usize::from(fragments.count),
             octets: fragments.octets,
         },
     }

@@ -1,16 +1,15 @@
-ghost use Rattle.std.specs.Prelude.{ℕ, ◌≡◌, ◌==◌, ◌<◌, ◌≤◌, ◌++◌, ◌∷◌, [], if◌then◌else◌, length, map, option_copied, slice_get, suc, List, IfOk, OnOk, Some, None};
-ghost use Rattle.std.specs.List.{concat, list_all, list_any};
-ghost use Rattle.std.specs.Str.{bytes_eq};
+ghost use Rattle.std.specs.Prelude.{ℕ, ◌≡◌, ◌==◌, ◌^◌, ◌<◌, ◌≤◌, ◌++◌, ◌∷◌, [], if◌then◌else◌, length, map, option_copied, slice_get, suc, List, IfOk, OnOk, Some, None};
+ghost use Rattle.std.specs.List.{concat};
 ghost use Rattle.rtps_fragments.specs.Heard as heard;
 ghost use Rattle.rtps_wire.specs.DataFrag as data_frag;
-ghost use Rattle.rtps_fragments.specs.Listeners as listeners;
 ghost use Rattle.rtps_fragments.specs.Samples as samples;
 ghost use Rattle.rtps_fragments.specs.ToldSamples as told_samples;
 
 use crate::piece::{FragmentRun, SentFragments};
 use crate::told_sample::ToldSample;
+use bumpalo::Bump;
+use bumpalo::collections::into_bump_slice;
 use rtps_ids::Memory;
-use rtps_receiver::Audience;
 use rtps_wire::Shape;
 use std::alloc::Global;
 use std::collections::BTreeMap;
@@ -41,22 +40,6 @@ impl<'a> Heard<'a> {
             octets: &[],
             alloc,
         }
-    }
-
-    /// The same once more.
-    pub(crate) fn copy(&self) -> Result<Heard<'a>, Memory>
-        ensures { IfOk result (λ copy. (last : ℕ) (came : List (ℕ × List ℕ)) → heard.IsHeard last came self.now → heard.IsHeard last came copy) }
-    {
-        let mut front = Vec::with_capacity(self.alloc, self.front.len())?;
-        front.extend_from_slice(&self.front)?;
-        let ahead = self.ahead.clone()?;
-        Ok(Heard {
-            front,
-            ahead,
-            other: self.other,
-            octets: self.octets,
-            alloc: self.alloc,
-        })
     }
 
     /// How many fragments came from the first one on.
@@ -129,36 +112,6 @@ impl<'a> Heard<'a> {
         self.advance(last)
     }
 
-    /// Whether these octets came first for a fragment.
-    fn has_first(&self, index: u64, octets: &[u8]) -> bool
-        requires { 0 < index }
-        ensures { result ≡ listeners.is_octets (heard.kept_first self.now index) octets.now }
-    {
-        match self.first(index) {
-            Some(first) => first == octets,
-            None => false,
-        }
-    }
-
-    /// Whether these came first for each of consecutive fragments of a sample of this shape.
-    pub(crate) fn knows(&self, shape: Shape, fragments: &FragmentRun<'_>) -> bool
-        requires size { 0 < shape.fragment }
-        requires first { 0 < fragments.now.first }
-        ensures { (last : ℕ) (came : List (ℕ × List ℕ)) → heard.IsHeard last came self.now
-            → result ≡ list_all (listeners.came_first came) (heard.came_from fragments.now.first (data_frag.parts_in shape.fragment fragments.now.count fragments.now.octets.now)) }
-    {
-        let size = usize::from(shape.fragment);
-        let mut rest = fragments.octets;
-        for place in 0..fragments.count {
-            let (octets, behind) = rest.split_at(size.min(rest.len()));
-            if !self.has_first(u64::from(fragments.first) + u64::from(place), octets) {
-                return false;
-            }
-            rest = behind;
-        }
-        true
-    }
-
     /// How many samples can be put together: none where some fragment did not come, two where one came with other octets.
     pub(crate) fn count(&self, last: u64) -> usize
         requires { 0 < last }
@@ -174,37 +127,37 @@ impl<'a> Heard<'a> {
         }
     }
 
-    /// The octets of all fragments, with these in place of those of the fragment `index`; of none where it is 0. Each fragment came,
-    /// so there are as many octets as the sample has, and room for them is asked for at once.
-    fn joined(&self, shape: Shape, index: u64, octets: &[u8]) -> Result<Vec<u8>, Memory>
+    /// The octets of all fragments, with those of the other one in place of the first ones of the fragment of its number; of none where it
+    /// is 0. Each fragment came, so there are as many octets as the sample has, and room for them is asked for at once.
+    fn joined(&self, arena: &'a Bump, shape: Shape, other: (u64, &[u8])) -> Result<&'a [u8], Memory>
         requires size { 0 < shape.fragment }
         requires whole { data_frag.last_fragment shape ≤ heard.kept_front self.now }
         ensures { IfOk result (λ sample. (came : List (ℕ × List ℕ)) (parts : List (List ℕ)) → heard.IsHeard (data_frag.last_fragment shape) came self.now
-            → samples.firsts_of came (data_frag.last_fragment shape) ≡ Some parts → sample.items ≡ concat (heard.with_part parts index octets.now)) }
+            → samples.firsts_of came (data_frag.last_fragment shape) ≡ Some parts → sample.now ≡ concat (heard.with_part parts other.entry.0 other.entry.1.now)) }
     {
-        let mut sample = Vec::with_capacity(self.alloc, shape.sample as usize)?;
+        let mut sample = Vec::with_capacity(arena, shape.sample as usize)?;
         for place in 0..shape.last_fragment() {
-            if place + 1 == index {
-                sample.extend_from_slice(octets)?;
+            if place + 1 == other.0 {
+                sample.extend_from_slice(other.1)?;
             } else {
                 sample.extend_from_slice(self.front[place as usize])?;
             }
         }
-        Ok(sample)
+        Ok(into_bump_slice(sample))
     }
 
     /// The sample at a place of those that can be put together: the octets that came first for each fragment; at place 1 with
     /// the other octets of the fragment that came with others.
-    pub(crate) fn sample(&self, shape: Shape, place: usize) -> Result<Vec<u8>, Memory>
+    fn sample(&self, arena: &'a Bump, shape: Shape, place: usize) -> Result<&'a [u8], Memory>
         requires size { 0 < shape.fragment }
         requires whole { data_frag.last_fragment shape ≤ heard.kept_front self.now }
         ensures { IfOk result (λ sample. (came : List (ℕ × List ℕ)) → heard.IsHeard (data_frag.last_fragment shape) came self.now
-            → place < length (samples.samples_of (data_frag.last_fragment shape) came) → slice_get (samples.samples_of (data_frag.last_fragment shape) came) place ≡ Some sample.items) }
+            → place < length (samples.samples_of (data_frag.last_fragment shape) came) → slice_get (samples.samples_of (data_frag.last_fragment shape) came) place ≡ Some sample.now) }
     {
         if place == 0 {
-            self.joined(shape, 0, &[])
+            self.joined(arena, shape, (0, &[]))
         } else {
-            self.joined(shape, self.other, self.octets)
+            self.joined(arena, shape, (self.other, self.octets))
         }
     }
 
@@ -212,6 +165,7 @@ impl<'a> Heard<'a> {
     fn take_all(&mut self, shape: Shape, fragments: &FragmentRun<'a>) -> Result<(), Memory>
         requires size { 0 < shape.fragment }
         requires first { 0 < fragments.now.first }
+        requires few { fragments.now.count < 2 ^ 63 }
         ensures { OnOk result ((came : List (ℕ × List ℕ)) → heard.IsHeard (data_frag.last_fragment shape) came self.old
             → heard.IsHeard (data_frag.last_fragment shape) (came ++ heard.came_from fragments.now.first (data_frag.parts_in shape.fragment fragments.now.count fragments.now.octets.now)) self.new) }
     {
@@ -220,57 +174,40 @@ impl<'a> Heard<'a> {
         let mut rest = fragments.octets;
         for place in 0..fragments.count {
             let (octets, behind) = rest.split_at(size.min(rest.len()));
-            self.take(last, u64::from(fragments.first) + u64::from(place), octets)?;
+            self.take(last, u64::from(fragments.first) + place as u64, octets)?;
             rest = behind;
         }
         Ok(())
     }
 
-    /// Takes fragments that are sent. After `Memory` it is of no use.
-    pub(crate) fn take_sent(&mut self, sent: &SentFragments<'a>) -> Result<(), Memory>
+    /// Takes fragments that are sent. It says whether their sample can be put together now. After `Memory` it is of no use.
+    pub(crate) fn take_sent(&mut self, sent: &SentFragments<'a>) -> Result<bool, Memory>
         requires { told_samples.IsSent sent.now }
-        ensures { OnOk result ((came : List (ℕ × List ℕ)) → heard.IsHeard (data_frag.last_fragment (told_samples.shape_of sent.now.key)) came self.old
+        ensures came { OnOk result ((came : List (ℕ × List ℕ)) → heard.IsHeard (data_frag.last_fragment (told_samples.shape_of sent.now.key)) came self.old
             → heard.IsHeard (data_frag.last_fragment (told_samples.shape_of sent.now.key)) (came ++ (told_samples.sent_value sent.now).came) self.new) }
+        ensures whole { IfOk result (λ whole. (came : List (ℕ × List ℕ)) → heard.IsHeard (data_frag.last_fragment (told_samples.shape_of sent.now.key)) came self.old
+            → whole ≡ samples.has_sample (data_frag.last_fragment (told_samples.shape_of sent.now.key)) (came ++ (told_samples.sent_value sent.now).came)) }
     {
-        self.take_all(sent.key.shape(), &sent.fragments)
+        let shape = sent.key.shape();
+        self.take_all(shape, &sent.fragments)?;
+        Ok(self.count(shape.last_fragment()) > 0)
     }
 
-    /// Whether a sample of so many fragments can be put together.
-    pub(crate) fn is_whole(&self, last: u64) -> bool
-        requires { 0 < last }
-        ensures { (came : List (ℕ × List ℕ)) → heard.IsHeard last came self.now → result ≡ samples.has_sample last came }
-    {
-        self.count(last) > 0
-    }
-
-    /// Whether the octets are those of a sample of this shape that can be put together.
-    pub(crate) fn has(&self, shape: Shape, octets: &[u8]) -> Result<bool, Memory>
-        requires size { 0 < shape.fragment }
-        requires some { 0 < data_frag.last_fragment shape }
-        ensures { IfOk result (λ has. (came : List (ℕ × List ℕ)) → heard.IsHeard (data_frag.last_fragment shape) came self.now → has ≡ list_any (bytes_eq octets.now) (samples.samples_of (data_frag.last_fragment shape) came)) }
-    {
-        for place in 0..self.count(shape.last_fragment()) {
-            let sample = self.sample(shape, place)?;
-            if octets == sample.as_slice() {
-                return Ok(true);
-            }
-        }
-        Ok(false)
-    }
-
-    /// Takes fragments that are sent to this audience, and appends the samples that they tell: those that could not be put
-    /// together before. After `Memory` it is of no use.
+    /// Takes fragments that are sent, and appends the samples that they tell, with their octets in the arena: those that could not be put
+    /// together before. It says whether there is one now. After `Memory` it is of no use.
     pub(crate) fn tell(
         &mut self,
+        arena: &'a Bump,
         sent: &SentFragments<'a>,
-        audience: Audience,
-        told: &mut Vec<ToldSample>,
-    ) -> Result<(), Memory>
+        told: &mut Vec<ToldSample<'a>>,
+    ) -> Result<bool, Memory>
         requires { told_samples.IsSent sent.now }
         ensures came { OnOk result ((came : List (ℕ × List ℕ)) → heard.IsHeard (data_frag.last_fragment (told_samples.shape_of sent.now.key)) came self.old
             → heard.IsHeard (data_frag.last_fragment (told_samples.shape_of sent.now.key)) (came ++ (told_samples.sent_value sent.now).came) self.new) }
         ensures told { OnOk result ((came : List (ℕ × List ℕ)) → heard.IsHeard (data_frag.last_fragment (told_samples.shape_of sent.now.key)) came self.old
-            → map told_samples.told_value told.new.items ≡ map told_samples.told_value told.old.items ++ told_samples.told_by_sent (told_samples.sent_value sent.now) audience came) }
+            → map told_samples.told_value told.new.items ≡ map told_samples.told_value told.old.items ++ told_samples.told_by_sent (told_samples.sent_value sent.now) came) }
+        ensures whole { IfOk result (λ whole. (came : List (ℕ × List ℕ)) → heard.IsHeard (data_frag.last_fragment (told_samples.shape_of sent.now.key)) came self.old
+            → whole ≡ samples.has_sample (data_frag.last_fragment (told_samples.shape_of sent.now.key)) (came ++ (told_samples.sent_value sent.now).came)) }
     {
         let shape = sent.key.shape();
         let last = shape.last_fragment();
@@ -278,14 +215,13 @@ impl<'a> Heard<'a> {
         self.take_all(shape, &sent.fragments)?;
         let after = self.count(last);
         for place in before..after {
-            let octets = self.sample(shape, place)?;
+            let octets = self.sample(arena, shape, place)?;
             told.push(ToldSample {
                 act: sent.act,
-                audience,
                 is_key: sent.key.is_key,
                 octets,
             })?;
         }
-        Ok(())
+        Ok(after > 0)
     }
 }

@@ -1,8 +1,12 @@
 //! Laws over definitions alone. Each function does nothing: its clause is the law, and its proof the law's proof.
 
 ghost use Rattle.rtps_fragments.specs.Laws as laws;
+ghost use Rattle.rtps_fragments.specs.SampleReport as sample_report;
 
-use rtps_audit::laws::{runs_exist_where_founded, verdicts_agree};
+use rtps_audit::laws::{
+    has_no_two_verdicts, runs_exist_where_founded, verdicts_agree, verdicts_follow_what_is_said,
+};
+use rtps_discovery::laws::one_map;
 
 /// Where a recording with fragments and one without tell alike, and claim and announce the same, the verdict by all runs in which
 /// the reader takes fragments one by one is the verdict of the recording without fragments.
@@ -28,14 +32,14 @@ pub fn fragment_verdict_is_told()
     samples_tell_alike();
 }
 
-/// Of any writer and reader, a recording with pieces and its acts with the samples among them tell alike, whoever hears which pieces of
-/// a sample.
+/// Of any writer and reader, a recording with pieces and what the reader hears of its acts, with the samples that they tell it, tell alike,
+/// whoever hears which pieces of a sample.
 pub fn acts_tell_alike()
     ensures { laws.ActsTellAlike }
 {}
 
-/// Of any writer and reader, the verdict by all runs in which the reader takes fragments one by one is the verdict of the acts of the
-/// recording with the samples among them, with its numbers, from any number on.
+/// Of any writer and reader, the verdict by all runs in which the reader takes fragments one by one is the verdict of what the reader hears
+/// of the acts of the recording, with its numbers, from any number on.
 pub fn fragment_verdict_of_acts()
     ensures { laws.FragmentVerdictOfActs }
 {
@@ -43,28 +47,74 @@ pub fn fragment_verdict_of_acts()
     acts_tell_alike();
 }
 
-/// The first datagrams of a recording with pieces, and the same ones of its acts with the samples among them, tell alike: what is sent
-/// later changes nothing for a reader.
+/// The first datagrams of a recording with pieces, and the same ones of what a reader hears of its acts, tell alike: what is sent later changes
+/// nothing for a reader.
 pub fn first_datagrams_tell_alike()
     ensures { laws.FirstDatagramsTellAlike }
 {}
 
-/// The verdict by the first datagrams of a recording with its samples is that by all runs, in which the reader takes fragments one by
-/// one, on the recording that ends there.
+/// The verdict by what a reader hears of the first datagrams of a recording is that by all runs, in which the reader takes fragments one by one,
+/// on the recording that ends there.
 pub fn first_datagrams_decide()
     ensures { laws.FirstDatagramsDecideSamples }
 {
     fragments_tell_alike();
-    first_datagrams_tell_alike();
+    acts_tell_alike();
 }
 
-/// The first datagrams of a recording with its samples have the acts that they have alone, each with the samples that it tells by what
-/// was sent before it. What is sent later adds nothing to them.
+/// What a reader hears of the first datagrams of a recording is what they tell it alone, each act with the samples that it tells by what was
+/// sent before it.
 pub fn first_datagrams_tell_the_same()
     ensures { laws.FirstDatagramsTellTheSame }
 {}
 
-/// Where no act has a piece, no sample is told: the acts are as they are.
+/// What a reader hears of the first datagrams is the beginning of what it hears of all. What is sent later adds nothing to them.
+pub fn first_datagrams_are_heard_first()
+    ensures { laws.FirstDatagramsAreHeardFirst }
+{}
+
+/// An act has its fragments itself: what a reader hears of the acts of a recording as they are sent is what the recording tells it.
+pub fn sent_acts_are_heard()
+    ensures { laws.SentActsAreHeard }
+{}
+
+/// Where no act sends fragments, each reader hears the acts as they are.
+pub fn acts_are_heard_without_fragments()
+    ensures { laws.ActsAreHeardWithoutFragments }
+{}
+
+/// Where no act of a writer sends fragments, the verdict on what a reader hears of it is the one on the acts as they are sent.
+pub fn verdicts_stay_without_fragments()
+    ensures { laws.VerdictsStayWithoutFragments }
+{
+    verdicts_follow_what_is_said();
+}
+
+/// Acts without fragments are overheard as they are.
+pub fn acts_are_overheard_without_fragments()
+    ensures { laws.OverheardWithoutFragments }
+{}
+
+/// Where neither what a writer said nor what a reader asked sends fragments, that is what the reader hears.
+pub fn pairs_are_heard_without_fragments()
+    ensures { laws.PairsAreHeardWithoutFragments }
+{}
+
+/// What is taken in has one report by what each reader hears: rows of the same pairs are the same.
+pub fn one_report_heard()
+    ensures rows { sample_report.RowsHeardAreOne }
+    ensures report { sample_report.HasOneReportHeard }
+{
+    one_map();
+    has_no_two_verdicts();
+}
+
+/// Where the fragments of a recording are skipped, no act of it sends some.
+pub fn skipped_fragments_are_not_sent()
+    ensures { laws.SkippedFragmentsAreNotSent }
+{}
+
+/// Where no act has a piece, no sample is told: each reader hears the acts as they are.
 pub fn acts_stay_without_pieces()
     ensures { laws.ActsStayWithoutPieces }
 {}
@@ -105,25 +155,26 @@ pub fn few_fragments_make_no_sample()
     ensures { laws.FewFragmentsMakeNoSample }
 {}
 
-/// What fragments tell an audience, no wider one can put together.
-pub fn none_is_told_again()
-    ensures { laws.NoneIsToldAgain }
+/// An act tells a reader nothing that it does not hear.
+pub fn unheard_acts_tell_nothing()
+    ensures { laws.UnheardActsTellNothing }
 {}
 
-/// What an act tells of a sample depends on the acts with its pieces alone: those of its writer, its number and its shape.
+/// What an act tells a reader of a sample depends on the acts with its pieces alone: those of its writer, its number and its shape.
 pub fn samples_stand_alone()
     ensures { laws.SamplesStandAlone }
 {}
 
-/// Of any writer and reader of a recording, whatever its octets are, the verdict by all runs in which the reader takes fragments one by
-/// one is that of the acts of the recording with the samples among them, with its numbers, from any number on.
+/// Of any writer and reader of a recording, whatever its octets are, the verdict by all runs in which the reader takes fragments one by one is
+/// that of what the reader hears of the acts as they are sent, with its numbers, from any number on.
 pub fn recorded_verdict_is_of_runs()
     ensures { laws.RecordedVerdictIsOfRuns }
 {
     fragment_verdict_of_acts();
+    sent_acts_are_heard();
 }
 
-/// Where no submessage of a recording belongs to fragments, an index with samples takes in what a plain one does.
+/// Where no submessage of a recording belongs to fragments, an index with fragments takes in what a plain one does.
 pub fn intake_stays_without_fragments()
     ensures { laws.IntakeStaysWithoutFragments }
 {}

@@ -2,7 +2,6 @@ ghost use Rattle.std.specs.Prelude.{◌≡◌};
 ghost use Rattle.rtps_fragments.specs.ToldSamples as told_samples;
 
 use rtps_ids::{Guid, SeqNum};
-use rtps_receiver::Audience;
 use rtps_wire::Shape;
 
 /// Consecutive fragments of one sample.
@@ -11,7 +10,7 @@ pub(crate) struct FragmentRun<'a> {
     /// The number of the first of them. Fragments count from 1.
     pub(crate) first: u32,
     /// How many there are.
-    pub(crate) count: u16,
+    pub(crate) count: usize,
     /// Their octets, one after another.
     pub(crate) octets: &'a [u8],
 }
@@ -50,7 +49,5 @@ pub(crate) struct SentFragments<'a> {
     pub(crate) act: usize,
     /// The sample that they are of.
     pub(crate) key: SampleKey,
-    /// To whom they are sent.
-    pub(crate) audience: Audience,
     pub(crate) fragments: FragmentRun<'a>,
 }

@@ -5,40 +5,34 @@ ghost use Rattle.rtps_fragments.specs.Announcements as announcements;
 ghost use Rattle.rtps_fragments.specs.Merging as merging;
 ghost use Rattle.rtps_fragments.specs.ReadDatagrams as read_datagrams;
 ghost use Rattle.rtps_fragments.specs.RecordedSamples as recorded_samples;
-ghost use Rattle.rtps_fragments.specs.FragmentVerdict as fragment_verdict;
-ghost use Rattle.rtps_fragments.specs.SampleActs as sample_acts;
 ghost use Rattle.rtps_fragments.specs.FragmentWalk as fragment_walk;
 ghost use Rattle.rtps_fragments.specs.ToldSamples as told_samples;
 ghost use Rattle.rtps_fragments.specs.Whole as whole_spec;
 ghost use Rattle.rtps_fragments.specs.declared.fragments.Fragments.TheVariants.{Read, Skipped};
-ghost use Rattle.rtps_fragments.specs.declared.merging.SampleForm.TheVariants.{ForAudience, ForEveryone};
 
 use crate::announcements::{DatagramActs, Indexed};
 use crate::fragment_walk::FragmentWalk;
 use crate::fragments::Fragments;
-use crate::laws::recorded_verdict_is_of_runs;
 use crate::listen::{Deaf, Listen};
-use crate::merging::{SampleForm, merge};
+use crate::merging::merge;
 use crate::samples::Samples;
 use crate::told_sample::ToldSample;
 use crate::whole::WholeNumbers;
-use rtps_audit::{Index, Verdict};
-use rtps_discovery::Pair;
-use rtps_ids::{Memory, SeqNum};
+use bumpalo::Bump;
+use rtps_audit::Index;
+use rtps_ids::Memory;
 use rtps_receiver::{Spoken, Walk};
 use std::alloc::Global;
 
 /// The samples that the acts of one datagram tell.
 #[derive(Clone, Copy)]
-struct DatagramSamples<'s> {
+struct DatagramSamples<'r, 's> {
     /// The number of the datagram, counted from 1.
     datagram: usize,
-    /// Each audience.
-    told: &'s [ToldSample],
-    /// A reader that hears everything, of built-in writers.
-    overheard: &'s [ToldSample],
+    /// Those of built-in writers, whoever hears them.
+    overheard: &'r [ToldSample<'s>],
     /// The numbers of which some sample of the recording is ever whole.
-    whole: &'s WholeNumbers,
+    whole: &'r WholeNumbers,
 }
 
 /// What datagrams are read into, one after another.
@@ -47,9 +41,7 @@ struct Reading<'s> {
     /// What they are all taken in to.
     indexed: Indexed<'s>,
     walk: FragmentWalk<'s>,
-    /// Its acts, and behind each the samples that it tells.
-    acts: Vec<Spoken<'s>>,
-    /// Its acts, and behind each the samples that it tells a reader which hears everything.
+    /// Its acts, and behind each the samples of a built-in writer that it tells.
     announcing: Vec<Spoken<'s>>,
 }
 
@@ -61,7 +53,6 @@ impl<'s> Reading<'s> {
         Reading {
             indexed: Indexed::new(alloc),
             walk: FragmentWalk::new(alloc),
-            acts: Vec::new(alloc),
             announcing: Vec::new(alloc),
         }
     }
@@ -73,50 +64,38 @@ impl<'s> Reading<'s> {
         let Reading {
             indexed,
             walk: _,
-            acts: _,
             announcing: _,
         } = self;
         indexed
     }
 }
 
-/// Takes in one datagram more, and behind each of its acts the samples that it tells. A listener is told what is read of it. After `Memory`
+/// Takes in one datagram more. A listener is told what is read of it. After `Memory`
 /// the index and the listener are of no use.
 fn note_datagram<'s, L: Listen>(
     reading: &mut Reading<'s>,
     octets: &'s [u8],
-    samples: &DatagramSamples<'s>,
+    samples: &DatagramSamples<'_, 's>,
     listener: &mut L,
 ) -> Result<(), Memory>
     requires few { reading.old.indexed.index.tallies.datagrams + 1 < 2 ^ 64 }
     requires next { (start : L) × (before : List read_datagrams.ReadDatagramValue) × L.has_heard start before listener.old × (length before + 1 ≡ samples.now.datagram) }
     ensures heard { OnOk result ((start : L) (before : List read_datagrams.ReadDatagramValue) → L.has_heard start before listener.old
         → L.has_heard start (before ++ read_datagrams.datagram_read samples.now.datagram (map (λ one. one.act) (fragment_walk.piece_acts_of octets.now))
-        (merging.merged_from ForEveryone 0 (map (λ one. one.act) (fragment_walk.piece_acts_of octets.now)) (map told_samples.told_value samples.now.overheard.now)) ∷ []) listener.new) }
+        (merging.merged_from 0 (map (λ one. one.act) (fragment_walk.piece_acts_of octets.now)) (map told_samples.told_value samples.now.overheard.now)) ∷ []) listener.new) }
     ensures index { OnOk result ((intake : intake_spec.Intake) (all : List told_samples.SentValue) → whole_spec.AreWholeIn all samples.now.whole.now
         → samples.now.datagram ≡ length intake.announcing + 1 → announcements.IsIndexedBy intake reading.old.indexed
-        → announcements.IsIndexedBy (intake_spec.intake_more intake (whole_spec.tally_left all octets.now) (merging.merged_from ForAudience 0 (map (λ one. one.act) (fragment_walk.piece_acts_of octets.now)) (map told_samples.told_value samples.now.told.now))
-        (merging.merged_from ForEveryone 0 (map (λ one. one.act) (fragment_walk.piece_acts_of octets.now)) (map told_samples.told_value samples.now.overheard.now))) reading.new.indexed) }
+        → announcements.IsIndexedBy (intake_spec.intake_more intake (whole_spec.tally_left all octets.now) (map (λ one. one.act) (fragment_walk.piece_acts_of octets.now))
+        (merging.merged_from 0 (map (λ one. one.act) (fragment_walk.piece_acts_of octets.now)) (map told_samples.told_value samples.now.overheard.now))) reading.new.indexed) }
 {
     reading.walk.read(octets)?;
     let tally = samples.whole.tally(&reading.walk);
     let own = &reading.walk.acts;
-    merge(
-        &mut reading.acts,
-        SampleForm::ForAudience,
-        own,
-        samples.told,
-    )?;
-    merge(
-        &mut reading.announcing,
-        SampleForm::ForEveryone,
-        own,
-        samples.overheard,
-    )?;
+    merge(&mut reading.announcing, own, samples.overheard)?;
     let noted = DatagramActs {
         datagram: samples.datagram,
         own,
-        acts: &reading.acts,
+        acts: own,
         announcing: &reading.announcing,
     };
     reading.indexed.note(tally, &noted, listener)?;
@@ -182,7 +161,7 @@ fn plain_start<'s, L: Listen>(
 fn index_behind<'s, L: Listen>(
     start: PlainStart<'s>,
     recording: &[&'s [u8]],
-    samples: &'s Samples,
+    samples: &Samples<'s>,
     listener: &mut L,
 ) -> Result<Indexed<'s>, Memory>
     requires start { recorded_samples.IsPlainStart Read (map (λ datagram. datagram.now) recording.now) start }
@@ -197,27 +176,26 @@ fn index_behind<'s, L: Listen>(
         datagrams,
     } = start;
     for place in datagrams..recording.len() {
-        let told = DatagramSamples {
+        let here = DatagramSamples {
             datagram: place + 1,
-            told: &samples.told[place - datagrams],
             overheard: &samples.overheard[place - datagrams],
             whole: &samples.whole,
         };
-        note_datagram(&mut reading, recording[place], &told, listener)?;
+        note_datagram(&mut reading, recording[place], &here, listener)?;
     }
     Ok(reading.into_index())
 }
 
-/// The index of a recording, with its samples where fragments are read, and its announcements. The samples are put where the index may
-/// borrow them. A listener is told what is read of each datagram, where fragments are read with its fragments.
+/// The index of a recording, with its fragments where these are read, and its announcements. The samples of built-in writers have their octets in
+/// the arena. A listener is told what is read of each datagram, where fragments are read with its fragments.
 ///
 /// The octets of each datagram are read once up to the first one with a submessage of fragments, where these are read. Those behind it are
 /// read twice, for the samples and for the index, and that one three times. `Memory` is answered where there is none for it, and then
-/// `samples` and the listener are of no use.
+/// the listener is of no use.
 pub fn index_told<'s, L: Listen>(
     alloc: Global,
     source: Source<'_, 's>,
-    samples: &'s mut Samples,
+    arena: &'s Bump,
     listener: &mut L,
 ) -> Result<Indexed<'s>, Memory>
     requires { L.has_heard listener.old [] listener.old }
@@ -229,18 +207,17 @@ pub fn index_told<'s, L: Listen>(
     if start.datagrams == recording.len() {
         return Ok(start.reading.into_index());
     }
-    *samples = Samples::of(alloc, &recording[start.datagrams..])?;
-    let indexed = index_behind(start, recording, samples, listener)?;
+    let samples = Samples::of(alloc, arena, &recording[start.datagrams..])?;
+    let indexed = index_behind(start, recording, &samples, listener)?;
     Ok(indexed)
 }
 
-/// The index of a recording, as [`index_told`] makes it, with nobody who listens. `Memory` is answered where there is none for it, and then
-/// `samples` is of no use.
+/// The index of a recording, as [`index_told`] makes it, with nobody who listens. `Memory` is answered where there is none for it.
 pub fn index_as<'s>(
     alloc: Global,
     recording: &[&'s [u8]],
     fragments: Fragments,
-    samples: &'s mut Samples,
+    arena: &'s Bump,
 ) -> Result<Indexed<'s>, Memory>
     ensures { IfOk result (announcements.IsIndexedBy (recorded_samples.intake_as fragments (map (λ datagram. datagram.now) recording.now))) }
 {
@@ -248,16 +225,5 @@ pub fn index_as<'s>(
         recording,
         fragments,
     };
-    index_told(alloc, source, samples, &mut Deaf)
-}
-
-/// Judges by the index of a recording with its samples what the recording says of a writer and a reader, of the writer's numbers from
-/// `from` on. The verdict is that by all runs in which the reader takes fragments one by one. `Memory` is answered where what is
-/// kept of that cannot grow.
-pub fn judge_with_samples(index: &Index<'_>, pair: Pair, from: SeqNum) -> Result<Verdict, Memory>
-    ensures { (recording : List (List ℕ)) → index_spec.IsIndexBy (recorded_samples.intake_with recording) index.now
-        → IfOk result (fragment_verdict.IsFragmentVerdictFrom from (sample_acts.fragment_speech_of pair.writer pair.reader (fragment_walk.sending_of recording))) }
-{
-    recorded_verdict_is_of_runs();
-    index.judge_from(pair, from)
+    index_told(alloc, source, arena, &mut Deaf)
 }

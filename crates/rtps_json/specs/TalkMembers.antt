@@ -1,8 +1,8 @@
 -- The members of the object of a report that say who does not talk. own: other programs get the names of DDS, which `list` prints; words for
 -- values are those of the text.
-use Rattle.std.specs.Prelude.{ℕ, ◌++◌, Bool, if◌then◌else◌, is_some, List, [], ◌∷◌, codes, map, Option, None, Some}
+use Rattle.std.specs.Prelude.{ℕ, ◌++◌, Bool, if◌then◌else◌, is_some, List, [], ◌∷◌, codes, map, Option}
 use Rattle.std.specs.Option.{option_map}
-use Rattle.json.specs.Json.{Json, boolean, null, string}
+use Rattle.json.specs.Json.{Json, boolean, string}
 use Rattle.rtps_discovery.specs.declared.matching.Pair.{Pair}
 use Rattle.rtps_evidence.specs.FirstNumbers as first_numbers
 use Rattle.rtps_evidence.specs.Times as times

@@ -7,7 +7,7 @@ ghost use Rattle.rtps_report.specs.Talk.{talk_value};
 ghost use Rattle.rtps_json.specs.EventMembers.{event_json, parties_json, party_json};
 ghost use Rattle.rtps_json.specs.EventMembers as event_members;
 ghost use Rattle.rtps_json.specs.JsonText.{clock_times};
-ghost use Rattle.rtps_json.specs.Values.{items_json, member_json, members_json, value_json};
+ghost use Rattle.rtps_json.specs.Values.{member_json, members_json, value_json};
 
 use crate::json_members::{Clock, place_value};
 use crate::values::{Made, Member, Members, Value, array, joined, object};

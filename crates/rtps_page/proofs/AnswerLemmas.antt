@@ -1,7 +1,7 @@
 -- The acts of the answers of a pair among the acts of its reader.
-use Rattle.std.proofs.Common.{◌≡◌, ◌+◌, ◌<◌, ◌≤◌, ◌&&◌, ◌++◌, ◌∷◌, [], ◌∙◌, ℕ, suc, List, Bool, true, false, Option, Some, None, ap, append-nil, arith, cond, drop, filter, get_or, if◌then◌else◌, is_some, length, map, pos, refl, sym, take}
+use Rattle.std.proofs.Common.{◌≡◌, ◌+◌, ◌<◌, ◌≤◌, ◌&&◌, ◌++◌, ◌∷◌, [], ◌∙◌, ℕ, suc, List, Bool, true, false, Option, Some, None, ap, append-nil, arith, cond, drop, get_or, if◌then◌else◌, is_some, length, map, refl, sym, take}
 use Rattle.std.proofs.lemmas.Bool.Decides.{nat_tests}
-use Rattle.std.proofs.lemmas.List.{length-append, length_push, map-append, nil_from_length, take_more, take-append-drop, take-take}
+use Rattle.std.proofs.lemmas.List.{length-append, length_push, map-append, nil_from_length, take-append-drop, take-take}
 use Rattle.std.proofs.lemmas.List.Elements.{filter-append}
 use Rattle.rtps_discovery.specs.declared.matching.Pair.{Pair}
 use Rattle.rtps_ids.specs.declared.identity.Guid.{Guid}
@@ -10,15 +10,10 @@ use Rattle.rtps_receiver.specs.Speech as receiver_speech
 use Rattle.rtps_receiver.specs.Values as values
 use Rattle.rtps_audit.specs.Placed as placed
 use Rattle.rtps_audit.specs.Speech as audit_speech
-use Rattle.rtps_audit.specs.declared.answer.Answer.{Answer}
 use Rattle.rtps_audit.specs.declared.placed.Placed.{Placed}
 use Rattle.std.specs.List.{cons_option}
 use Rattle.rtps_page.specs.ChartEntries as chart_entries
 use Rattle.rtps_page.proofs.EntryLemmas.{answers_yes}
-
-pub values_more : (acts : List Placed) (i : ℕ) (x : Placed) → i < length acts → x ≡ get_or acts i x → map placed.placed_value (take (i + 1) acts) ≡ map placed.placed_value (take i acts) ++ placed.placed_value x ∷ []
-values_more acts i x lt at =
-    ap (λ (l : List Placed). map placed.placed_value l) (take_more acts i x lt ∙ ap (λ (y : Placed). take i acts ++ y ∷ []) (sym at)) ∙ map-append placed.placed_value (take i acts) (x ∷ [])
 
 -- ---- there are as many answers as acts of answers
 

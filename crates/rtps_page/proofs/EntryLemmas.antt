@@ -12,7 +12,6 @@ use Rattle.rtps_receiver.specs.Speech as speech
 use Rattle.rtps_audit.specs.Placed as placed_spec
 use Rattle.rtps_audit.specs.declared.placed.Placed.{Placed}
 use Rattle.rtps_audit.proofs.Offered.{speaker_is_origin}
-use Rattle.rtps_page.specs.ChartEntries as chart_entries
 use Rattle.rtps_page.specs.Page as page
 use Rattle.rtps_page.proofs.Written.{answer_json, answers_in, array_of, begin_array, begin_object, count_json, end_array, end_object, entries_by, entry_json, guid_text, json_tokens, key, mapped_tokens, named_json, number, number_json, set_items, string, Token, writer_json}
 
@@ -36,10 +35,10 @@ entry_tokens place named kind numbers =
 array_last : (values : List Json) → json_tokens (array_of values) ++ end_object ∷ [] ≡ begin_array ∷ (flat_map json_tokens values ++ (end_array ∷ end_object ∷ []))
 array_last values = ap (λ l. l ++ end_object ∷ []) (array_tokens values) ∙ ap (λ l. begin_array ∷ l) (append_assoc (flat_map json_tokens values) (end_array ∷ []) (end_object ∷ []))
 
-pub writer_tokens : (acts : List placed_spec.PlacedValue) (writer : Guid)
-    → json_tokens (writer_json acts writer)
-    ≡ begin_object ∷ key (codes "guid") ∷ string (guid_text writer) ∷ key (codes "acts") ∷ begin_array ∷ (flat_map json_tokens (entries_by writer acts) ++ (end_array ∷ end_object ∷ []))
-writer_tokens acts writer = ap (λ l. begin_object ∷ key (codes "guid") ∷ string (guid_text writer) ∷ key (codes "acts") ∷ l) (array_last (entries_by writer acts))
+pub writer_tokens : (acts : List placed_spec.PlacedValue) (all : List Pair) (writer : Guid)
+    → json_tokens (writer_json acts all writer)
+    ≡ begin_object ∷ key (codes "guid") ∷ string (guid_text writer) ∷ key (codes "acts") ∷ begin_array ∷ (flat_map json_tokens (entries_by all writer acts) ++ (end_array ∷ end_object ∷ []))
+writer_tokens acts all writer = ap (λ l. begin_object ∷ key (codes "guid") ∷ string (guid_text writer) ∷ key (codes "acts") ∷ l) (array_last (entries_by all writer acts))
 
 pub answered_tokens : (pair : Pair) (answers : List placed_spec.PlacedValue)
     → json_tokens (page.answered_json pair answers)
@@ -76,9 +75,6 @@ kept_first {X} test keeps all (x ∷ xs) = go (keeps x) (all x) (kept_first test
 pub spoken_from : (writer : Guid) (acts : List placed_spec.PlacedValue)
     → filter (λ placed. speech.is_spoken_by placed.act writer) (filter (placed_spec.is_from writer) acts) ≡ filter (λ placed. speech.is_spoken_by placed.act writer) acts
 spoken_from writer acts = kept_first (λ placed. speech.is_spoken_by placed.act writer) (placed_spec.is_from writer) (speaker_is_origin writer) acts
-
-pub entries_from : (writer : Guid) (acts : List placed_spec.PlacedValue) → entries_by writer (filter (placed_spec.is_from writer) acts) ≡ entries_by writer acts
-entries_from writer acts = ap (flat_map chart_entries.entries_of) (spoken_from writer acts)
 
 answerer_is_origin : (pair : Pair) (placed : placed_spec.PlacedValue) → speech.is_answer placed.act pair.reader pair.writer ≡ true → placed_spec.is_from pair.reader placed ≡ true
 answerer_is_origin pair placed e = search rules

@@ -5,5 +5,7 @@ pub mod PageLemmas
 pub mod EntryLemmas
 pub mod AnswerLemmas
 pub mod ChartLemmas
+pub mod CountLemmas
+pub mod TellingLemmas
 pub mod TimeLemmas
 pub mod Written

@@ -1,5 +1,6 @@
 -- The tokens of what the data of a page is made of, and how deep it nests.
-use Rattle.std.proofs.Common.{◌≤◌, ◌++◌, ◌∷◌, [], ℕ, ℤ, List, Bool, true, false, arith, codes, filter, map, pos, Option, None, Some, ◌-◌, ◌==◌, length, nat_lt, if◌then◌else◌, is_some, flat_map}
+use Rattle.std.proofs.Common.{◌≤◌, ◌++◌, ◌∷◌, [], ℕ, zero, suc, ℤ, List, Bool, true, false, arith, codes, filter, map, pos, Option, None, Some, ◌-◌, ◌==◌, length, nat_lt, if◌then◌else◌, flat_map}
+use Rattle.std.specs.Prelude.{replicate}
 use Rattle.std.specs.List.{range_with_len}
 use Rattle.json.specs.Json.{Json, max_depth, string}
 use Rattle.json.specs.Tree.{depth, items_depth, members_depth}
@@ -7,10 +8,12 @@ use Rattle.rtps_evidence.specs.Explanation as explanation
 use Rattle.rtps_evidence.specs.declared.location.Location.{Location}
 use Rattle.rtps_discovery.specs.declared.matching.Pair.{Pair}
 use Rattle.rtps_ids.specs.declared.identity.Guid.{Guid}
+use Rattle.rtps_receiver.specs.Audience as audience
 use Rattle.rtps_receiver.specs.Values as values
 use Rattle.rtps_discovery.specs.Directory as directory_spec
-use Rattle.rtps_receiver.specs.Speech as speech
 use Rattle.rtps_audit.specs.Placed as placed
+use Rattle.rtps_evidence.specs.Locations as locations
+use Rattle.rtps_fragments.specs.SampleCounts as sample_counts
 use Rattle.rtps_report.specs.Asked as asked
 use Rattle.rtps_evidence.specs.Times as times_spec
 use Rattle.rtps_evidence.specs.declared.times.Seconds.{Seconds}
@@ -20,11 +23,12 @@ use Rattle.rtps_report.specs.FullReport as full_report
 use Rattle.rtps_report.specs.Recording as recording
 use Rattle.rtps_json.proofs.Offered.{check_depth, joined, timed_within}
 use Rattle.rtps_page.specs.ChartEntries as chart_entries
+use Rattle.rtps_page.specs.ChartRoom as chart_room
 use Rattle.rtps_page.specs.ChartTimes as chart_times
 use Rattle.rtps_page.specs.Joining as joining
 use Rattle.rtps_page.specs.Origin as origin
 use Rattle.rtps_page.specs.Page as page
-use Rattle.rtps_page.proofs.Written.{acts_judged, answer_json, answers_in, answers_json, chart_members, check_members, count_json, endpoint_json, entries_at, entry_json, expect_json, gone_json, joined_json, joining_json, moment_json, named_json, number_json, object_of, one_gone_json, option_members, own_members, recording_members, set_items, times_member, writer_json, writers_behind}
+use Rattle.rtps_page.proofs.Written.{acts_sent, answer_json, answers_in, answers_json, chart_members, check_members, count_json, endpoint_json, entries_at, entry_json, expect_json, gone_json, joined_json, joining_json, moment_json, named_json, number_json, object_of, one_gone_json, option_members, own_members, recording_members, set_items, times_member, writer_json, writers_behind}
 
 -- ---- depth
 
@@ -64,10 +68,6 @@ piece_within place named number None = omega arith
 piece_within place named number (Some part) =
     omega (arith, entry_within place named (codes "piece") (pos number ∷ pos part.first ∷ pos (chart_entries.fragments_in part.shape.fragment (length part.octets)) ∷ []))
 
-sample_within : (place : Location) (named : List ℕ) (number : ℕ) (is_told : Bool) → items_depth (json_text.items_of (chart_entries.sample_json place named number is_told)) ≤ 1
-sample_within place named number true = omega (arith, entry_within place named (codes "sample") (pos number ∷ []))
-sample_within place named number false = omega arith
-
 entries_within : (place : Location) (named : List ℕ) (body : values.ActBodyValue) → items_depth (json_text.items_of (entries_at place named body)) ≤ 1
 entries_within place named (values.ActBodyValue.Data value) = omega (arith, entry_within place named (codes "data") (pos value.number ∷ []))
 entries_within place named (values.ActBodyValue.Heartbeat value) =
@@ -76,15 +76,49 @@ entries_within place named (values.ActBodyValue.Heartbeat value) =
 entries_within place named (values.ActBodyValue.Gap value) =
     both_within 1 (gone_json place named value.start value.list.base) (map (one_gone_json place named) (chart_entries.members_of value.list)) (gone_within place named value.start value.list.base)
     (mapped_within 1 (one_gone_json place named) (λ n. entry_within place named (codes "gone") (pos n ∷ pos n ∷ [])) (chart_entries.members_of value.list))
-entries_within place named (values.ActBodyValue.DataFrag value) =
-    both_within 1 (chart_entries.piece_json place named value.number value.sent) (chart_entries.sample_json place named value.number (is_some value.told)) (piece_within place named value.number value.sent)
-    (sample_within place named value.number (is_some value.told))
+entries_within place named (values.ActBodyValue.DataFrag value) = piece_within place named value.number value.sent
 entries_within place named (values.ActBodyValue.AckNack value) = omega arith
 entries_within place named (values.ActBodyValue.NackFrag value) = omega arith
 
-writer_within : (acts : List placed.PlacedValue) (writer : Guid) → depth (writer_json acts writer) ≤ 3
-writer_within acts writer =
-    let entries = flat_within 1 chart_entries.entries_of (λ placed. entries_within _ _ placed.act.body) (filter (λ placed. speech.is_spoken_by placed.act writer) acts) in
+same_within : (most count : ℕ) (value : Json) → depth value ≤ most → items_depth (json_text.items_of (replicate count value)) ≤ most
+same_within most zero value within = omega arith
+same_within most (suc count) value within = omega (arith, within, same_within most count value within)
+
+sample_within : (place : Location) (named : List ℕ) (number : ℕ) → depth (chart_entries.sample_json place named number) ≤ 1
+sample_within place named number = entry_within place named (codes "sample") (pos number ∷ [])
+
+samples_within : (placed : placed.PlacedValue) (all : ℕ) (each : List chart_entries.Told) (body : values.ActBodyValue) → items_depth (json_text.items_of (chart_entries.samples_in placed all each body)) ≤ 1
+samples_within placed all each (values.ActBodyValue.DataFrag value) = go (chart_entries.are_told_alike placed.act all each)
+  where
+    place : Location
+    place = locations.location_of placed
+
+    for_all : List Json
+    for_all = replicate all (chart_entries.sample_json place (chart_entries.audience_text (audience.audience_of placed.act)) value.number)
+
+    go : (b : Bool) → items_depth (json_text.items_of (if b then for_all else flat_map (chart_entries.samples_to place value.number) each)) ≤ 1
+    go true = same_within 1 all (chart_entries.sample_json place (chart_entries.audience_text (audience.audience_of placed.act)) value.number) (sample_within place (chart_entries.audience_text (audience.audience_of placed.act)) value.number)
+    go false =
+        flat_within 1 (chart_entries.samples_to place value.number)
+        (λ told.
+        same_within 1 told.samples (chart_entries.sample_json place (chart_entries.audience_text (chart_entries.only told.reader)) value.number) (sample_within place (chart_entries.audience_text (chart_entries.only told.reader)) value.number))
+        each
+samples_within placed all each (values.ActBodyValue.Data value) = omega arith
+samples_within placed all each (values.ActBodyValue.Heartbeat value) = omega arith
+samples_within placed all each (values.ActBodyValue.Gap value) = omega arith
+samples_within placed all each (values.ActBodyValue.AckNack value) = omega arith
+samples_within placed all each (values.ActBodyValue.NackFrag value) = omega arith
+
+acts_within : (readers : List Guid) (before acts : List placed.PlacedValue) → items_depth (json_text.items_of (chart_entries.entries_behind readers before acts)) ≤ 1
+acts_within readers before [] = omega arith
+acts_within readers before (one ∷ acts) =
+    both_within 1 (chart_entries.entries_of one ++ chart_entries.samples_behind readers before one) (chart_entries.entries_behind readers (before ++ one ∷ []) acts)
+    (both_within 1 (chart_entries.entries_of one) (chart_entries.samples_behind readers before one) (entries_within _ _ one.act.body) (samples_within one (sample_counts.overheard_at before one) (chart_entries.told_to readers before one) one.act.body))
+    (acts_within readers (before ++ one ∷ []) acts)
+
+writer_within : (acts : List placed.PlacedValue) (all : List Pair) (writer : Guid) → depth (writer_json acts all writer) ≤ 3
+writer_within acts all writer =
+    let entries = acts_within (chart_entries.readers_of all writer) [] (filter (placed.is_from writer) acts) in
     omega (arith, entries)
 
 set_within : (body : values.ActBodyValue) → items_depth (json_text.items_of (set_items body)) ≤ 1
@@ -146,9 +180,9 @@ times_within times acts pairs =
     (filter shown (range_with_len 1 (length times.of_datagrams))) in
     omega (arith, each)
 
-chart_part : (times : times_spec.TimesValue) (acts : List placed.PlacedValue) (pairs : List Pair) → members_depth (json_text.members_of (chart_members times acts pairs)) ≤ 6
-chart_part times acts pairs =
-    let writers = mapped_within 3 (writer_json acts) (writer_within acts) (writers_behind None pairs) in
+chart_part : (times : times_spec.TimesValue) (acts : List placed.PlacedValue) (all pairs : List Pair) → members_depth (json_text.members_of (chart_members times acts all pairs)) ≤ 6
+chart_part times acts all pairs =
+    let writers = mapped_within 3 (writer_json acts all) (writer_within acts all) (writers_behind None pairs) in
     let answers = mapped_within 4 (answers_json acts) (answers_within acts) pairs in
     let seconds = timed_within 2 times (times_member times acts pairs ∷ []) (times_within times acts pairs) in
     omega (arith, writers, answers, seconds)
@@ -159,6 +193,6 @@ page_within origin asked recording report directory =
     let pairs = page.pairs_with_charts asked recording report in
     let rows = full_report.rows_of report in
     let own : members_depth (json_text.members_of (own_members origin asked recording rows directory pairs)) ≤ 6 =
-    omega (arith, recording_within origin recording.times, joining_within recording.times rows, options_within asked, endpoints_within directory, chart_part recording.times (acts_judged recording) pairs) in
+    omega (arith, recording_within origin recording.times, joining_within recording.times rows, options_within asked, endpoints_within directory, chart_part recording.times (acts_sent recording) (chart_room.pairs_of rows) pairs) in
     let all = joined 7 (check_members asked recording report) (own_members origin asked recording rows directory pairs) (check_depth asked recording report) (omega (arith, own)) in
     omega (arith, all)

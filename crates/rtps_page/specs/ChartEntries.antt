@@ -2,12 +2,12 @@
 -- "DataFrag", 8.3.8.4 "Gap" and 8.3.8.6 "Heartbeat".
 -- own: an entry is an array of JSON and no object, since there can be very many. A HEARTBEAT says two things: that the numbers
 -- below its first are gone, and the last number. A GAP has an entry for the numbers below its list, and one for each of its list.
--- A DATA_FRAG has one for the fragments that it sends. A sample that was sent in fragments is complete at the DATA_FRAG by which the
--- last of them that some audience lacked is sent to it: there it has one entry more, which names this audience. So a chart shows one dot
--- for it, and knows by the fragments which of them were sent again. An answer takes an entry for its base, and one for each number that
--- it asks for.
-use Rattle.std.specs.Prelude.{ℕ, ℤ, pos, Bool, ◌+◌, ◌-◌, ◌/◌, nat_lt, ◌++◌, ◌==◌, if◌then◌else◌, List, [], ◌∷◌, codes, filter, is_some, length, map, max, Option, None, Some, flat_map}
-use Rattle.std.specs.List.{range_with_len}
+-- A DATA_FRAG has one for the fragments that it sends, and behind it one for each sample that is complete by it. Where it tells each
+-- reader of the writer's rows that hears it as many samples as one who hears everything, these name whom the DATA_FRAG names; else
+-- each names a reader that is told the sample. So a chart shows one dot for it, and knows by the fragments which of them were sent
+-- again. An answer takes an entry for its base, and one for each number that it asks for.
+use Rattle.std.specs.Prelude.{ℕ, ℤ, pos, Bool, ◌≡◌, ◌<◌, ◌+◌, ◌-◌, ◌/◌, nat_lt, ◌++◌, ◌==◌, ◌||◌, not, if◌then◌else◌, List, [], ◌∷◌, codes, filter, get_or, length, map, max, replicate, take, Option, None, Some, flat_map}
+use Rattle.std.specs.List.{list_all, range_with_len}
 use Rattle.hex.specs.Hex.{encode_lower}
 use Rattle.json.specs.Json.{Json, string}
 use Rattle.rtps_ids.specs.NumberSet as number_set
@@ -22,7 +22,10 @@ use Rattle.rtps_discovery.specs.declared.matching.Pair.{Pair}
 use Rattle.rtps_audit.specs.Placed as placed
 use Rattle.rtps_evidence.specs.Locations as locations
 use Rattle.rtps_evidence.specs.declared.location.Location.{Location}
+use Rattle.rtps_fragments.specs.SampleCounts as sample_counts
 use Rattle.rtps_json.specs.JsonText as json_text
+use Rattle.rtps_page.specs.declared.tellings.Telling.{Telling}
+use Rattle.rtps_page.specs.declared.tellings.Tellings.{Tellings}
 
 -- the participant that an act is sent to; nothing where it is sent to everyone
 abbrev pub prefix_text : Option GuidPrefix → List ℕ
@@ -68,16 +71,12 @@ piece_json place named number None = []
 piece_json place named number (Some part) =
     entry_json place named (codes "piece") (pos number ∷ pos part.first ∷ pos (fragments_in part.shape.fragment (length part.octets)) ∷ []) ∷ []
 
--- that the sample of a number is complete, where the act tells it; else nothing
-abbrev pub sample_json : Location → List ℕ → ℕ → Bool → List Json
-sample_json place named number is_told = if is_told then entry_json place named (codes "sample") (pos number ∷ []) ∷ [] else []
-
 -- the entries of what an act says there
 abbrev pub entries_at : Location → List ℕ → values.ActBodyValue → List Json
 entries_at place named (values.ActBodyValue.Data value) = entry_json place named (codes "data") (pos value.number ∷ []) ∷ []
 entries_at place named (values.ActBodyValue.Heartbeat value) = gone_json place named 1 value.first ++ entry_json place named (codes "announced") (value.last ∷ []) ∷ []
 entries_at place named (values.ActBodyValue.Gap value) = gone_json place named value.start value.list.base ++ map (one_gone_json place named) (members_of value.list)
-entries_at place named (values.ActBodyValue.DataFrag value) = piece_json place named value.number value.sent ++ sample_json place named value.number (is_some value.told)
+entries_at place named (values.ActBodyValue.DataFrag value) = piece_json place named value.number value.sent
 entries_at place named (values.ActBodyValue.AckNack value) = []
 entries_at place named (values.ActBodyValue.NackFrag value) = []
 
@@ -85,9 +84,102 @@ entries_at place named (values.ActBodyValue.NackFrag value) = []
 abbrev pub entries_of : placed.PlacedValue → List Json
 entries_of placed = entries_at (locations.location_of placed) (audience_text (audience.audience_of placed.act)) placed.act.body
 
--- the entries of all that this writer says by these acts, to whichever reader
-abbrev pub entries_by : Guid → List placed.PlacedValue → List Json
-entries_by writer acts = flat_map entries_of (filter (λ placed. speech.is_spoken_by placed.act writer) acts)
+-- ---- samples in fragments
+
+-- that a sample of this number is complete
+abbrev pub sample_json : Location → List ℕ → ℕ → Json
+sample_json place named number = entry_json place named (codes "sample") (pos number ∷ [])
+
+-- a reader, and how many samples an act tells it
+pub record Told : Type 0 where
+  pub reader : Guid
+  pub samples : ℕ
+
+-- the audience that is one reader
+abbrev pub only : Guid → Option Audience
+only reader = Some (record { dest = Some reader.prefix; reader = reader.entity })
+
+-- the reader does not hear the act, or is told so many samples by it
+abbrev pub is_told_alike : values.ActValue → ℕ → Told → Bool
+is_told_alike act all told = not (speech.is_heard_by act told.reader) || (told.samples == all)
+
+-- each of these that hears an act is told so many samples by it
+abbrev pub are_told_alike : values.ActValue → ℕ → List Told → Bool
+are_told_alike act all each = list_all (is_told_alike act all) each
+
+-- the samples of this number that are complete at a place for one reader
+abbrev pub samples_to : Location → ℕ → Told → List Json
+samples_to place number told = replicate told.samples (sample_json place (audience_text (only told.reader)) number)
+
+-- The samples of this number that an act tells, where it tells one who hears everything so many: where each of these is told as many, for
+-- those whom the act names, and else for each of these.
+abbrev pub samples_json : placed.PlacedValue → ℕ → List Told → ℕ → List Json
+samples_json placed all each number =
+    if are_told_alike placed.act all each
+    then replicate all (sample_json (locations.location_of placed) (audience_text (audience.audience_of placed.act)) number)
+    else flat_map (samples_to (locations.location_of placed) number) each
+
+-- those of the number of a DATA_FRAG; other acts tell none
+abbrev pub samples_in : placed.PlacedValue → ℕ → List Told → values.ActBodyValue → List Json
+samples_in placed all each (values.ActBodyValue.DataFrag value) = samples_json placed all each value.number
+samples_in placed all each (values.ActBodyValue.Data value) = []
+samples_in placed all each (values.ActBodyValue.Heartbeat value) = []
+samples_in placed all each (values.ActBodyValue.Gap value) = []
+samples_in placed all each (values.ActBodyValue.AckNack value) = []
+samples_in placed all each (values.ActBodyValue.NackFrag value) = []
+
+-- how many samples an act tells each of these readers, behind others
+abbrev pub told_to : List Guid → List placed.PlacedValue → placed.PlacedValue → List Told
+told_to readers before placed = map (λ reader. record { reader = reader; samples = sample_counts.samples_at reader before placed }) readers
+
+-- the samples that an act tells these readers, behind others
+abbrev pub samples_behind : List Guid → List placed.PlacedValue → placed.PlacedValue → List Json
+samples_behind readers before placed = samples_in placed (sample_counts.overheard_at before placed) (told_to readers before placed) placed.act.body
+
+-- ---- what a writer says
+
+-- acts behind others, each with the samples that it tells these readers
+abbrev pub entries_behind : List Guid → List placed.PlacedValue → List placed.PlacedValue → List Json
+entries_behind readers before [] = []
+entries_behind readers before (placed ∷ acts) = (entries_of placed ++ samples_behind readers before placed) ++ entries_behind readers (before ++ placed ∷ []) acts
+
+-- the readers of the pairs of a writer
+abbrev pub readers_of : List Pair → Guid → List Guid
+readers_of pairs writer = map (λ pair. pair.reader) (filter (λ pair. placed.is_guid pair.writer writer) pairs)
+
+-- The entries of all that this writer says by these acts, to whichever reader. The readers of these pairs are told samples.
+abbrev pub entries_by : List Pair → Guid → List placed.PlacedValue → List Json
+entries_by pairs writer acts = entries_behind (readers_of pairs writer) [] (filter (placed.is_from writer) acts)
+
+-- ---- what is counted of the acts of a writer
+
+-- what is counted of a reader, as numbers
+pub record Counted : Type 0 where
+  pub reader : Guid
+  pub counts : List ℕ
+
+-- what is counted of a reader
+abbrev pub counted_of : Telling → Counted
+counted_of telling = record { reader = telling.reader; counts = map sample_counts.number_of telling.counts.items }
+
+-- what is to be counted of a reader by these acts
+abbrev pub counts_for : List placed.PlacedValue → Guid → Counted
+counts_for acts reader = record { reader = reader; counts = sample_counts.counts_behind (sample_counts.samples_at reader) [] acts }
+
+-- what is counted of a reader, of the act at this place
+abbrev pub told_of : ℕ → Telling → Told
+told_of at telling = record { reader = telling.reader; samples = get_or (map sample_counts.number_of telling.counts.items) at 0 }
+
+-- the samples that the act at this place tells by what is counted
+abbrev pub samples_counted : Tellings → ℕ → placed.PlacedValue → List Json
+samples_counted tellings at placed = samples_in placed (get_or (map sample_counts.number_of tellings.all.items) at 0) (map (told_of at) tellings.each.items) placed.act.body
+
+-- It counts what each of these acts tells these readers.
+abbrev pub AreTellings : List Guid → List placed.PlacedValue → Tellings → Type 0
+AreTellings readers acts tellings =
+    (at : ℕ) (placed : placed.PlacedValue) → at < length acts → placed ≡ get_or acts at placed → samples_counted tellings at placed ≡ samples_behind readers (take at acts) placed
+
+-- ---- what a reader answers
 
 -- the answers of a pair's reader to its writer
 abbrev pub answers_in : Pair → List placed.PlacedValue → List placed.PlacedValue

@@ -19,13 +19,17 @@ abbrev pub is_turn : Turn → Bool → Bool
 is_turn Turn.Unclean clean = not clean
 is_turn Turn.Clean clean = clean
 
--- what a row would take, which is not given room yet, where a tail may have so many numbers
-abbrev pub need_of : ℕ → List placed.PlacedValue → explanation.ExplanationValue → Need
-need_of tail acts row =
+-- the pairs of rows
+abbrev pub pairs_of : List explanation.ExplanationValue → List Pair
+pairs_of rows = map (λ row. row.pair) rows
+
+-- what a row would take, which is not given room yet, where a tail may have so many numbers and these are the pairs of all rows
+abbrev pub need_of : ℕ → List placed.PlacedValue → List Pair → explanation.ExplanationValue → Need
+need_of tail acts pairs row =
     record {
       pair = row.pair;
       clean = row_facts.is_clean tail row.evidence;
-      acts = length (chart_entries.entries_by row.pair.writer acts);
+      acts = length (chart_entries.entries_by pairs row.pair.writer acts);
       answers = length (chart_entries.numbers_answered row.pair acts);
       charted = false;
     }
@@ -84,7 +88,7 @@ charted needs = filter (λ need. need.charted) (given_in_turn (given_from Turn.U
 
 -- the pairs of the rows that have one, in the order of the report
 abbrev pub charted_pairs : ℕ → List placed.PlacedValue → List explanation.ExplanationValue → List Pair
-charted_pairs tail acts rows = map (λ need. need.pair) (charted (map (need_of tail acts) rows))
+charted_pairs tail acts rows = map (λ need. need.pair) (charted (map (need_of tail acts (pairs_of rows)) rows))
 
 -- the writers of these pairs that follow one another, each once, behind this last one
 abbrev pub writers_behind : Option Guid → List Pair → List Guid

@@ -60,9 +60,9 @@ endpoint_members endpoint = (codes "guid", guid_json endpoint.guid) ∷ (codes "
 abbrev pub endpoint_json : endpoint.EndpointValue → Json
 endpoint_json endpoint = json_text.object_of (endpoint_members endpoint)
 
--- a writer, and the entries of what it says
-abbrev pub writer_json : List placed.PlacedValue → Guid → Json
-writer_json acts writer = json_text.object_of ((codes "guid", guid_json writer) ∷ (codes "acts", json_text.array_of (chart_entries.entries_by writer acts)) ∷ [])
+-- a writer, and the entries of what it says, where these are the pairs of all rows
+abbrev pub writer_json : List placed.PlacedValue → List Pair → Guid → Json
+writer_json acts all writer = json_text.object_of ((codes "guid", guid_json writer) ∷ (codes "acts", json_text.array_of (chart_entries.entries_by all writer acts)) ∷ [])
 
 -- a pair, and these answers of its reader to its writer
 abbrev pub answered_json : Pair → List placed.PlacedValue → Json
@@ -85,24 +85,24 @@ directory_member directory = (codes "endpoints", json_text.array_of (map endpoin
 abbrev pub times_member : times.TimesValue → List placed.PlacedValue → List Pair → json_text.Member
 times_member times acts pairs = (codes "times", json_text.array_of (chart_times.times_json times (chart_times.datagrams_shown acts pairs)))
 
--- what the charts of these pairs show; of times nothing where the recording has none
-abbrev pub chart_members : times.TimesValue → List placed.PlacedValue → List Pair → List json_text.Member
-chart_members times acts pairs = (codes "writers", json_text.array_of (map (writer_json acts) (chart_room.writers_behind None pairs)))
+-- what the charts of these pairs among all show; of times nothing where the recording has none
+abbrev pub chart_members : times.TimesValue → List placed.PlacedValue → List Pair → List Pair → List json_text.Member
+chart_members times acts all pairs = (codes "writers", json_text.array_of (map (writer_json acts all) (chart_room.writers_behind None pairs)))
     ∷ (codes "answers", json_text.array_of (map (answers_json acts) pairs)) ∷ json_text.timed_members times (times_member times acts pairs ∷ [])
 
--- the acts that the verdicts are by, with their places
-abbrev pub acts_judged : recording.RecordingValue → List placed.PlacedValue
-acts_judged recording = placed.placed_in (recorded_samples.intake_as Fragments.Read recording.datagrams).acts
+-- the acts as they are sent, with their places
+abbrev pub acts_sent : recording.RecordingValue → List placed.PlacedValue
+acts_sent recording = placed.placed_in (recorded_samples.intake_as Fragments.Read recording.datagrams).acts
 
 -- what a page of these rows has beside the object of `check --json`, for charts of these pairs
 abbrev pub own_members : origin_spec.OriginValue → asked.AskedValue → recording.RecordingValue → List explanation.ExplanationValue → directory_spec.DirectoryValue → List Pair → List json_text.Member
 own_members origin asked recording rows directory pairs =
     origin_spec.recording_member origin recording.times ∷ options_member asked ∷ directory_member directory ∷ joining.joined_member recording.times rows
-    ∷ chart_members recording.times (acts_judged recording) pairs
+    ∷ chart_members recording.times (acts_sent recording) (chart_room.pairs_of rows) pairs
 
 -- which rows have a chart
 abbrev pub pairs_with_charts : asked.AskedValue → recording.RecordingValue → full_report.ReportValue → List Pair
-pairs_with_charts asked recording report = chart_room.charted_pairs asked.tail (acts_judged recording) (full_report.rows_of report)
+pairs_with_charts asked recording report = chart_room.charted_pairs asked.tail (acts_sent recording) (full_report.rows_of report)
 
 -- all of it
 abbrev pub page_json : origin_spec.OriginValue → asked.AskedValue → recording.RecordingValue → full_report.ReportValue → directory_spec.DirectoryValue → Json

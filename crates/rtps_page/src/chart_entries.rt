@@ -1,18 +1,35 @@
-ghost use Rattle.std.specs.Prelude.{◌≡◌, ◌<◌, ◌^◌, ◌++◌, ◌∷◌, [], codes, is_some, length, OnOk, flat_map, option_map, pos, string_bytes};
+ghost use Rattle.std.specs.Prelude.{◌≡◌, ◌<◌, ◌^◌, ◌++◌, ◌∷◌, [], codes, length, OnOk, flat_map, option_map, replicate, string_bytes};
 ghost use Rattle.json.specs.Tree.{json_tokens};
 ghost use Rattle.rtps_receiver.specs.Values as receiver_values;
-ghost use Rattle.rtps_wire.specs.Values as wire_values;
 ghost use Rattle.rtps_audit.specs.Placed as placed_spec;
+ghost use Rattle.rtps_evidence.specs.Locations as locations;
 ghost use Rattle.rtps_page.specs.ChartEntries as chart_entries;
 
 use crate::entry_counts::has_number;
+use crate::tellings::{Telling, Told, count_at};
 use json::Writer;
 use rtps_audit::Placed;
 use rtps_evidence::Location;
-use rtps_ids::NumberSet;
+use rtps_ids::{NumberSet, SeqNum};
 use rtps_receiver::{ActBody, Audience, EVERY_READER, FragmentBody, SentPart, SpokenBody};
 use rtps_wire::HeartbeatBody;
 use std::alloc::AllocError;
+
+/// So many samples of a number that are complete at a place.
+#[derive(Clone, Copy)]
+pub(crate) struct Complete {
+    pub(crate) place: Location,
+    pub(crate) number: SeqNum,
+    pub(crate) samples: u64,
+}
+
+/// An act that tells samples of a number, and its place among those that are counted.
+#[derive(Clone, Copy)]
+pub(crate) struct Teller {
+    pub(crate) place: Location,
+    pub(crate) number: SeqNum,
+    pub(crate) at: usize,
+}
 
 /// Where an act stands, and whom it names.
 #[derive(Clone, Copy)]
@@ -161,56 +178,131 @@ fn push_sent(
     )
 }
 
-/// Whether an act tells a sample.
-fn is_told(piece: &FragmentBody<'_>) -> bool
-    ensures { result ≡ is_some (option_map wire_values.payload_value piece.now.told) }
+/// Appends that a sample of this number is complete.
+fn push_sample(writer: &mut Writer, head: EntryHead<'_>, number: SeqNum) -> Result<(), AllocError>
+    ensures tokens { OnOk result (writer.new.tokens
+        ≡ writer.old.tokens ++ json_tokens (chart_entries.sample_json head.entry.place head.entry.named.now number)) }
+    ensures before { writer.new.before ≡ writer.old.before }
 {
-    match piece.told {
-        Some(_) => true,
-        None => false,
-    }
+    push_entry(writer, head, "sample", &[number.get()])
 }
 
-fn push_sample(
+/// Appends that for so many samples.
+fn push_samples(
     writer: &mut Writer,
     head: EntryHead<'_>,
-    piece: &FragmentBody<'_>,
+    number: SeqNum,
+    count: u64,
 ) -> Result<(), AllocError>
     ensures tokens { OnOk result (writer.new.tokens
-        ≡ writer.old.tokens ++ json_tokens (chart_entries.entry_json head.entry.place head.entry.named.now (codes "sample") (pos piece.now.number ∷ []))) }
+        ≡ writer.old.tokens ++ flat_map json_tokens (replicate count (chart_entries.sample_json head.entry.place head.entry.named.now number))) }
     ensures before { writer.new.before ≡ writer.old.before }
 {
-    push_entry(writer, head, "sample", &[piece.number.get()])
+    for _ in 0..count {
+        push_sample(writer, head, number)?;
+    }
+    Ok(())
 }
 
-/// Appends that an act tells a sample, if it does.
-fn push_told(
+/// Appends so many samples of this number for an audience.
+fn push_samples_for(
     writer: &mut Writer,
-    head: EntryHead<'_>,
-    piece: &FragmentBody<'_>,
+    text: &mut String,
+    audience: Option<Audience>,
+    complete: Complete,
 ) -> Result<(), AllocError>
     ensures tokens { OnOk result (writer.new.tokens ≡ writer.old.tokens
-        ++ flat_map json_tokens (chart_entries.sample_json head.entry.place head.entry.named.now piece.now.number (is_some (option_map wire_values.payload_value piece.now.told)))) }
+        ++ flat_map json_tokens (replicate complete.samples (chart_entries.sample_json complete.place (chart_entries.audience_text audience) complete.number))) }
     ensures before { writer.new.before ≡ writer.old.before }
 {
-    if !is_told(piece) {
-        return Ok(());
-    }
-    push_sample(writer, head, piece)
+    text.clear();
+    push_audience(text, audience)?;
+    let head = EntryHead {
+        place: complete.place,
+        named: text,
+    };
+    push_samples(writer, head, complete.number, complete.samples)
 }
 
-fn push_piece(
+/// Appends the samples that an act tells a reader.
+fn push_to(
     writer: &mut Writer,
-    head: EntryHead<'_>,
-    piece: &FragmentBody<'_>,
+    text: &mut String,
+    telling: &Telling,
+    teller: &Teller,
 ) -> Result<(), AllocError>
-    ensures tokens { OnOk result (writer.new.tokens ≡ writer.old.tokens ++ flat_map json_tokens
-        (chart_entries.piece_json head.entry.place head.entry.named.now piece.now.number (option_map receiver_values.sent_part_value piece.now.sent)
-        ++ chart_entries.sample_json head.entry.place head.entry.named.now piece.now.number (is_some (option_map wire_values.payload_value piece.now.told)))) }
+    ensures tokens { OnOk result (writer.new.tokens ≡ writer.old.tokens
+        ++ flat_map json_tokens (chart_entries.samples_to teller.now.place teller.now.number (chart_entries.told_of teller.now.at telling.now))) }
     ensures before { writer.new.before ≡ writer.old.before }
 {
-    push_sent(writer, head, piece)?;
-    push_told(writer, head, piece)
+    let only = Audience {
+        dest: Some(telling.reader.prefix),
+        reader: telling.reader.entity,
+    };
+    let complete = Complete {
+        place: teller.place,
+        number: teller.number,
+        samples: count_at(&telling.counts, teller.at),
+    };
+    push_samples_for(writer, text, Some(only), complete)
+}
+
+/// Appends the samples that an act tells each reader.
+fn push_each(
+    writer: &mut Writer,
+    text: &mut String,
+    each: &[Telling],
+    teller: &Teller,
+) -> Result<(), AllocError>
+    ensures tokens { OnOk result (writer.new.tokens ≡ writer.old.tokens
+        ++ flat_map (λ one. flat_map json_tokens (chart_entries.samples_to teller.now.place teller.now.number (chart_entries.told_of teller.now.at one))) each.now) }
+    ensures before { writer.new.before ≡ writer.old.before }
+{
+    for telling in each {
+        push_to(writer, text, telling, teller)?;
+    }
+    Ok(())
+}
+
+/// Appends the samples that an act tells.
+pub(crate) fn push_told(
+    writer: &mut Writer,
+    text: &mut String,
+    told: Told<'_>,
+    placed: &Placed<'_>,
+) -> Result<(), AllocError>
+    ensures tokens { OnOk result (writer.new.tokens ≡ writer.old.tokens
+        ++ flat_map json_tokens (chart_entries.samples_counted told.entry.tellings.now told.entry.at (placed_spec.placed_value placed.now))) }
+    ensures before { writer.new.before ≡ writer.old.before }
+{
+    let SpokenBody::DataFrag(piece) = &placed.act.body else {
+        return Ok(());
+    };
+    let place = place_of(placed);
+    if told.are_alike(&placed.act) {
+        let complete = Complete {
+            place,
+            number: piece.number,
+            samples: told.all(),
+        };
+        return push_samples_for(writer, text, placed.act.audience(), complete);
+    }
+    let teller = Teller {
+        place,
+        number: piece.number,
+        at: told.at,
+    };
+    push_each(writer, text, &told.tellings.each, &teller)
+}
+
+/// Where an act stands.
+fn place_of(placed: &Placed<'_>) -> Location
+    ensures { result ≡ locations.location_of (placed_spec.placed_value placed.now) }
+{
+    Location {
+        datagram: placed.datagram as u64,
+        at: placed.act.at,
+    }
 }
 
 pub(crate) fn push_entries(
@@ -224,10 +316,7 @@ pub(crate) fn push_entries(
     text.clear();
     push_audience(text, placed.act.audience())?;
     let head = EntryHead {
-        place: Location {
-            datagram: placed.datagram as u64,
-            at: placed.act.at,
-        },
+        place: place_of(placed),
         named: text,
     };
     push_said(writer, head, &placed.act.body)
@@ -258,7 +347,7 @@ fn push_said(
             push_gone(writer, head, start, gap.list.base().cast_unsigned())?;
             push_members(writer, head, &gap.list)
         }
-        SpokenBody::DataFrag(piece) => push_piece(writer, head, piece),
+        SpokenBody::DataFrag(piece) => push_sent(writer, head, piece),
         SpokenBody::Act(ActBody::AckNack(_)) | SpokenBody::NackFrag(_) => Ok(()),
     }
 }

@@ -8,10 +8,11 @@ ghost use Rattle.rtps_page.specs.ChartRoom as chart_room;
 
 use crate::entry_counts::{entries_of_answers, entries_of_writer};
 use crate::pair_answers::answer_acts;
+use crate::tellings::Said;
 use rtps_audit::Index;
 use rtps_discovery::Pair;
 use rtps_evidence::Explanation;
-use rtps_ids::Guid;
+use rtps_ids::{Guid, Memory};
 use rtps_report::is_clean;
 use std::alloc::{AllocError, Global};
 
@@ -61,21 +62,27 @@ struct Known {
 }
 
 /// How many entries a writer has, where they may be known from the row before.
-fn entries_known(index: &Index<'_>, before: Option<Known>, writer: Guid) -> Known
-    ensures writer { result.writer ≡ writer }
-    ensures entries { (intake : intake.Intake) → index_spec.IsIndexBy intake index.now
-        → IfSome before (λ known. known.entries ≡ length (chart_entries.entries_by known.writer (placed.placed_in intake.acts)))
-        → result.entries ≡ length (chart_entries.entries_by writer (placed.placed_in intake.acts)) }
+fn entries_known(
+    alloc: Global,
+    said: Said<'_, '_>,
+    before: Option<Known>,
+    writer: Guid,
+) -> Result<Known, Memory>
+    ensures writer { IfOk result (λ known. known.writer ≡ writer) }
+    ensures entries { (intake : intake.Intake) → index_spec.IsIndexBy intake said.entry.index.now
+        → IfSome before (λ known. known.entries ≡ length (chart_entries.entries_by said.entry.pairs.now known.writer (placed.placed_in intake.acts)))
+        → IfOk result (λ known. known.entries ≡ length (chart_entries.entries_by said.entry.pairs.now writer (placed.placed_in intake.acts))) }
 {
     if let Some(known) = before {
         if known.writer == writer {
-            return known;
+            return Ok(known);
         }
     }
-    Known {
+    let tellings = said.tellings_of(alloc, writer)?;
+    Ok(Known {
         writer,
-        entries: entries_of_writer(index.acts_of(writer), writer),
-    }
+        entries: entries_of_writer(said.index.acts_of(writer), &tellings),
+    })
 }
 
 /// How many entries the answers of a pair's reader to its writer have.
@@ -89,27 +96,38 @@ fn entries_answered(alloc: Global, index: &Index<'_>, pair: Pair) -> Result<u128
 
 fn needs_of(
     alloc: Global,
-    index: &Index<'_>,
+    said: Said<'_, '_>,
     tail: u64,
     rows: &[Explanation<'_>],
-) -> Result<Vec<Need>, AllocError>
-    ensures { (intake : intake.Intake) → index_spec.IsIndexBy intake index.now
-        → IfOk result (λ needs. needs.items ≡ map (λ row. chart_room.need_of tail (placed.placed_in intake.acts) (explanation.explanation_value row)) rows.now) }
+) -> Result<Vec<Need>, Memory>
+    ensures { (intake : intake.Intake) → index_spec.IsIndexBy intake said.entry.index.now
+        → IfOk result (λ needs. needs.items ≡ map (λ row. chart_room.need_of tail (placed.placed_in intake.acts) said.entry.pairs.now (explanation.explanation_value row)) rows.now) }
 {
     let mut needs = Vec::with_capacity(alloc, rows.len())?;
     let mut before = None;
     for row in rows {
-        let known = entries_known(index, before, row.pair.writer);
+        let known = entries_known(alloc, said, before, row.pair.writer)?;
         before = Some(known);
         needs.push(Need {
             pair: row.pair,
             clean: is_clean(tail, &row.evidence),
             acts: known.entries,
-            answers: entries_answered(alloc, index, row.pair)?,
+            answers: entries_answered(alloc, said.index, row.pair)?,
             charted: false,
         })?;
     }
     Ok(needs)
+}
+
+/// The pairs of all rows.
+pub(crate) fn pairs_in(alloc: Global, rows: &[Explanation<'_>]) -> Result<Vec<Pair>, AllocError>
+    ensures { IfOk result (λ pairs. pairs.items ≡ chart_room.pairs_of (map explanation.explanation_value rows.now)) }
+{
+    let mut pairs = Vec::with_capacity(alloc, rows.len())?;
+    for row in rows {
+        pairs.push(row.pair)?;
+    }
+    Ok(pairs)
 }
 
 pub(crate) fn is_last(last: Option<Guid>, writer: Guid) -> bool
@@ -192,22 +210,24 @@ fn pairs_of(alloc: Global, needs: &[Need]) -> Result<Vec<Pair>, AllocError>
     Ok(pairs)
 }
 
-/// Which of these rows have a chart, where a tail may have so many numbers: their pairs, in the order of the rows.
+/// Which of all rows have a chart, where a tail may have so many numbers: their pairs, in the order of the rows.
 pub(crate) fn pairs_with_charts(
     alloc: Global,
-    index: &Index<'_>,
+    said: Said<'_, '_>,
     tail: u64,
     rows: &[Explanation<'_>],
-) -> Result<Vec<Pair>, AllocError>
-    ensures { (intake : intake.Intake) → index_spec.IsIndexBy intake index.now
+) -> Result<Vec<Pair>, Memory>
+    requires { said.pairs.now ≡ chart_room.pairs_of (map explanation.explanation_value rows.now) }
+    ensures { (intake : intake.Intake) → index_spec.IsIndexBy intake said.entry.index.now
         → IfOk result (λ pairs. pairs.items ≡ chart_room.charted_pairs tail (placed.placed_in intake.acts) (map explanation.explanation_value rows.now)) }
 {
-    let needs = needs_of(alloc, index, tail, rows)?;
+    let needs = needs_of(alloc, said, tail, rows)?;
     let room = Room {
         used: 0,
         last: None,
     };
     let (room, needs) = give_all(alloc, Turn::Unclean, room, &needs)?;
     let (_, needs) = give_all(alloc, Turn::Clean, room, &needs)?;
-    pairs_of(alloc, &needs)
+    let pairs = pairs_of(alloc, &needs)?;
+    Ok(pairs)
 }

@@ -1,9 +1,9 @@
 ghost use Rattle.std.specs.Prelude.{◌≡◌, ◌++◌, map, IfOk, OnOk};
 ghost use Rattle.json.specs.Tree.{json_tokens};
-ghost use Rattle.rtps_evidence.specs.Explanation.{explanation_value};
-ghost use Rattle.rtps_json.specs.JsonText.{clock_times, tokens_of_member};
-ghost use Rattle.rtps_json.specs.Values.{value_json};
-ghost use Rattle.rtps_page.specs.Joining.{joined_in, joined_json, joined_member, joining_json};
+ghost use Rattle.rtps_evidence.specs.Explanation as explanation;
+ghost use Rattle.rtps_json.specs.JsonText as json_text;
+ghost use Rattle.rtps_json.specs.Values as json_values;
+ghost use Rattle.rtps_page.specs.Joining as joining;
 
 use json::Writer;
 use rtps_evidence::{Explanation, Location};
@@ -12,7 +12,7 @@ use std::alloc::AllocError;
 
 /// Where the reader of a row joins; None where it does not, or was there before the recording.
 fn joined_of(row: &Explanation<'_>) -> Option<Location>
-    ensures { result ≡ joined_in (explanation_value row.now).evidence.in_span }
+    ensures { result ≡ joining.joined_in (explanation.explanation_value row.now).evidence.in_span }
 {
     let Some(in_span) = &row.evidence.in_span else {
         return None;
@@ -25,7 +25,7 @@ fn joined_of(row: &Explanation<'_>) -> Option<Location>
 }
 
 fn joined_value(joined: Option<Location>, clock: Clock<'_>) -> Made<Value>
-    ensures { IfOk result (λ value. value_json value ≡ joined_json (clock_times clock.entry) joined) }
+    ensures { IfOk result (λ value. json_values.value_json value ≡ joining.joined_json (json_text.clock_times clock.entry) joined) }
 {
     let Some(place) = joined else {
         return Ok(Value::Null);
@@ -46,7 +46,7 @@ fn push_joined(
     row: &Explanation<'_>,
 ) -> Result<(), AllocError>
     ensures tokens { OnOk result (writer.new.tokens
-        ≡ writer.old.tokens ++ json_tokens (joining_json (clock_times clock.entry) (explanation_value row.now))) }
+        ≡ writer.old.tokens ++ json_tokens (joining.joining_json (json_text.clock_times clock.entry) (explanation.explanation_value row.now))) }
     ensures before { writer.new.before ≡ writer.old.before }
 {
     let joined = joined_value(joined_of(row), clock)?;
@@ -61,7 +61,7 @@ pub(crate) fn push_all_joined(
     rows: &[Explanation<'_>],
 ) -> Result<(), AllocError>
     ensures tokens { OnOk result (writer.new.tokens
-        ≡ writer.old.tokens ++ tokens_of_member (joined_member (clock_times clock.entry) (map explanation_value rows.now))) }
+        ≡ writer.old.tokens ++ json_text.tokens_of_member (joining.joined_member (json_text.clock_times clock.entry) (map explanation.explanation_value rows.now))) }
     ensures before { writer.new.before ≡ writer.old.before }
 {
     writer.key("joined")?;

@@ -17,6 +17,7 @@ mod page_directory;
 mod page_parts;
 mod pair_answers;
 mod safe_text;
+mod tellings;
 
 pub use origin::Origin;
 pub use page::page_text;

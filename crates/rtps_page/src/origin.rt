@@ -1,6 +1,5 @@
 ghost use Rattle.std.specs.Prelude.{◌≡◌, IfOk};
-ghost use Rattle.rtps_json.specs.Values.{member_json, value_json};
-ghost use Rattle.rtps_page.specs.Origin.{moment_json, origin_value};
+ghost use Rattle.rtps_json.specs.Values as json_values;
 ghost use Rattle.rtps_page.specs.Origin as origin_spec;
 
 use rtps_evidence::Times;
@@ -21,7 +20,7 @@ pub struct Origin<'a> {
 
 /// A moment in milliseconds; null where there is none.
 fn moment(nanoseconds: Option<u64>) -> Value
-    ensures { value_json result ≡ moment_json nanoseconds }
+    ensures { json_values.value_json result ≡ origin_spec.moment_json nanoseconds }
 {
     match nanoseconds {
         Some(nanoseconds) => Value::Count(nanoseconds / MILLISECOND),
@@ -31,7 +30,7 @@ fn moment(nanoseconds: Option<u64>) -> Value
 
 /// Which recording the page is of.
 pub(crate) fn recording_member(origin: Origin<'_>, times: &Times, alloc: Global) -> Made<Member>
-    ensures { IfOk result (λ member. member_json member ≡ origin_spec.recording_member (origin_value origin.entry) times.now) }
+    ensures { IfOk result (λ member. json_values.member_json member ≡ origin_spec.recording_member (origin_spec.origin_value origin.entry) times.now) }
 {
     let name = String::from_str(alloc, origin.name)?;
     let version = String::from_str(alloc, origin.version)?;

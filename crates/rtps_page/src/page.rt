@@ -26,14 +26,12 @@ pub fn page_text(
     ensures { IfOk result (λ page. page_spec.IsPageOf (origin_spec.origin_value origin.entry) (asked.asked_value report.now.asked.now) report.now.recording.now (full_report.report_value report.now) plain.now (string_bytes page)) }
 {
     let directory = report.index.directory();
-    let data = data_of(
+    let data = data_of(&Shown {
+        report,
+        directory,
+        origin,
         alloc,
-        &Shown {
-            report,
-            directory,
-            origin,
-        },
-    )?;
+    })?;
     let page = joined(alloc, plain, &data)?;
     Ok(unsafe { String::from_utf8_unchecked(page) })
 }

@@ -1,28 +1,29 @@
 ghost use Rattle.std.specs.Prelude.{◌≡◌, ◌++◌, IfOk, OnOk, map, string_bytes};
 ghost use Rattle.json.specs.Json.{string};
-ghost use Rattle.rtps_audit.specs.Index.{IsIndexBy};
-ghost use Rattle.rtps_audit.specs.Intake.{Intake};
-ghost use Rattle.rtps_audit.specs.Placed.{placed_in};
-ghost use Rattle.rtps_report.specs.Asked.{asked_value};
-ghost use Rattle.rtps_json.specs.JsonText.{array_of, clock_times, tokens_of};
-ghost use Rattle.rtps_json.specs.Values.{member_json, value_json};
-ghost use Rattle.rtps_page.specs.Page.{IsPrinted, chart_members, expect_json, intake_in, json_in, members_in};
+ghost use Rattle.rtps_audit.specs.Index as index_spec;
+ghost use Rattle.rtps_audit.specs.Intake as intake;
+ghost use Rattle.rtps_audit.specs.Placed as placed;
+ghost use Rattle.rtps_evidence.specs.Explanation as explanation;
+ghost use Rattle.rtps_report.specs.Asked as asked_spec;
+ghost use Rattle.rtps_json.specs.JsonText as json_text;
+ghost use Rattle.rtps_json.specs.Values as json_values;
+ghost use Rattle.rtps_page.specs.ChartRoom as chart_room;
 ghost use Rattle.rtps_page.specs.Page as page_spec;
 
 use crate::chart_answers::push_all_answers;
-use crate::chart_room::pairs_with_charts;
+use crate::chart_room::{pairs_in, pairs_with_charts};
 use crate::chart_times::push_times;
 use crate::chart_writers::push_writers;
 use crate::joining::push_all_joined;
 use crate::origin::{Origin, recording_member};
 use crate::page_directory::push_directory;
+use crate::tellings::Said;
 use json::Writer;
-use rtps_audit::Index;
 use rtps_discovery::{Directory, Pair};
 use rtps_ids::Memory;
 use rtps_json::{Clock, Made, Member, Value, array, object, push_check_members, push_member};
 use rtps_report::{Asked, FullReport};
-use std::alloc::{AllocError, Global};
+use std::alloc::Global;
 
 /// What a page shows: the report, what discovery announced, and which recording it is of.
 #[derive(Clone, Copy)]
@@ -30,11 +31,12 @@ pub(crate) struct Shown<'r, 'a> {
     pub(crate) report: &'r FullReport<'a>,
     pub(crate) directory: &'r Directory<'a>,
     pub(crate) origin: Origin<'r>,
+    pub(crate) alloc: Global,
 }
 
 /// How many rows were expected; null where that is not asked.
 fn expected(expect: Option<u64>) -> Value
-    ensures { value_json result ≡ expect_json expect }
+    ensures { json_values.value_json result ≡ page_spec.expect_json expect }
 {
     match expect {
         Some(rows) => Value::Count(rows),
@@ -44,7 +46,7 @@ fn expected(expect: Option<u64>) -> Value
 
 #[tactic(auto, using(rtps_json::proofs::Offered::one_more))]
 fn texts(told: &[String], alloc: Global) -> Made<Value>
-    ensures { IfOk result (λ value. value_json value ≡ array_of (map string (map string_bytes told.now))) }
+    ensures { IfOk result (λ value. json_values.value_json value ≡ json_text.array_of (map string (map string_bytes told.now))) }
 {
     let mut values = Vec::new(alloc);
     for text in told {
@@ -54,7 +56,7 @@ fn texts(told: &[String], alloc: Global) -> Made<Value>
 }
 
 fn options_member(asked: &Asked<'_>, alloc: Global) -> Made<Member>
-    ensures { IfOk result (λ member. member_json member ≡ page_spec.options_member (asked_value asked.now)) }
+    ensures { IfOk result (λ member. json_values.member_json member ≡ page_spec.options_member (asked_spec.asked_value asked.now)) }
 {
     let topics = texts(asked.topics, alloc)?;
     let nodes = texts(asked.nodes, alloc)?;
@@ -72,29 +74,33 @@ fn options_member(asked: &Asked<'_>, alloc: Global) -> Made<Member>
 fn push_charts(
     writer: &mut Writer,
     clock: Clock<'_>,
-    index: &Index<'_>,
-    pairs: &[Pair],
-) -> Result<(), AllocError>
-    ensures tokens { (intake : Intake) → IsIndexBy intake index.now
-        → OnOk result (writer.new.tokens ≡ writer.old.tokens ++ tokens_of (chart_members (clock_times clock.entry) (placed_in intake.acts) pairs.now)) }
-    ensures before { writer.new.before ≡ writer.old.before }
-{
-    push_writers(clock.alloc, writer, index, pairs)?;
-    push_all_answers(clock.alloc, writer, index, pairs)?;
-    push_times(writer, clock, index, pairs)
-}
-
-fn push_members(
-    alloc: Global,
-    writer: &mut Writer,
-    shown: &Shown<'_, '_>,
+    said: Said<'_, '_>,
     pairs: &[Pair],
 ) -> Result<(), Memory>
-    requires { IsIndexBy (intake_in shown.now) shown.now.report.now.index }
-    ensures tokens { OnOk result (writer.new.tokens ≡ writer.old.tokens ++ tokens_of (members_in shown.now pairs.now)) }
+    ensures tokens { (intake : intake.Intake) → index_spec.IsIndexBy intake said.entry.index.now
+        → OnOk result (writer.new.tokens ≡ writer.old.tokens ++ json_text.tokens_of (page_spec.chart_members (json_text.clock_times clock.entry) (placed.placed_in intake.acts) said.entry.pairs.now pairs.now)) }
+    ensures before { writer.new.before ≡ writer.old.before }
+{
+    push_writers(clock.alloc, writer, said, pairs)?;
+    push_all_answers(clock.alloc, writer, said.index, pairs)?;
+    push_times(writer, clock, said.index, pairs)?;
+    Ok(())
+}
+
+/// Appends the members, with charts of these pairs among all.
+fn push_members(
+    writer: &mut Writer,
+    shown: &Shown<'_, '_>,
+    all: &[Pair],
+    pairs: &[Pair],
+) -> Result<(), Memory>
+    requires index { index_spec.IsIndexBy (page_spec.intake_in shown.now) shown.now.report.now.index }
+    requires pairs { all.now ≡ chart_room.pairs_of (map explanation.explanation_value shown.now.report.now.explained.rows.items) }
+    ensures tokens { OnOk result (writer.new.tokens ≡ writer.old.tokens ++ json_text.tokens_of (page_spec.members_in shown.now pairs.now)) }
     ensures before { writer.new.before ≡ writer.old.before }
 {
     let report = shown.report;
+    let alloc = shown.alloc;
     let mut text = String::new(alloc);
     let clock = Clock {
         times: report.recording.times(),
@@ -108,24 +114,28 @@ fn push_members(
     push_member(writer, &mut text, &options)?;
     push_directory(alloc, writer, &mut text, shown.directory)?;
     push_all_joined(writer, &mut text, clock, &report.explained.rows)?;
-    push_charts(writer, clock, &report.index, pairs)?;
-    Ok(())
+    let said = Said {
+        index: &report.index,
+        pairs: all,
+    };
+    push_charts(writer, clock, said, pairs)
 }
 
-pub(crate) fn data_of(alloc: Global, shown: &Shown<'_, '_>) -> Result<Vec<u8>, Memory>
-    requires { IsIndexBy (intake_in shown.now) shown.now.report.now.index }
-    ensures { IfOk result (λ text. IsPrinted (json_in shown.now) text.items) }
+pub(crate) fn data_of(shown: &Shown<'_, '_>) -> Result<Vec<u8>, Memory>
+    requires { index_spec.IsIndexBy (page_spec.intake_in shown.now) shown.now.report.now.index }
+    ensures { IfOk result (λ text. page_spec.IsPrinted (page_spec.json_in shown.now) text.items) }
 {
     let report = shown.report;
-    let pairs = pairs_with_charts(
-        alloc,
-        &report.index,
-        report.asked.tail,
-        &report.explained.rows,
-    )?;
+    let alloc = shown.alloc;
+    let all = pairs_in(alloc, &report.explained.rows)?;
+    let said = Said {
+        index: &report.index,
+        pairs: &all,
+    };
+    let pairs = pairs_with_charts(alloc, said, report.asked.tail, &report.explained.rows)?;
     let mut writer = Writer::new(Vec::new(alloc));
     writer.begin_object()?;
-    push_members(alloc, &mut writer, shown, &pairs)?;
+    push_members(&mut writer, shown, &all, &pairs)?;
     writer.end_object()?;
     Ok(writer.into_inner())
 }

@@ -1,9 +1,9 @@
 ghost use Rattle.std.specs.Prelude.{◌≡◌, ◌++◌, IfOk, OnOk};
 ghost use Rattle.json.specs.Tree.{json_tokens};
-ghost use Rattle.rtps_discovery.specs.Endpoint.{endpoint_value};
-ghost use Rattle.rtps_json.specs.JsonText.{tokens_of_member};
-ghost use Rattle.rtps_json.specs.Values.{value_json};
-ghost use Rattle.rtps_page.specs.Page.{directory_member, endpoint_json};
+ghost use Rattle.rtps_discovery.specs.Endpoint as endpoint_spec;
+ghost use Rattle.rtps_json.specs.JsonText as json_text;
+ghost use Rattle.rtps_json.specs.Values as json_values;
+ghost use Rattle.rtps_page.specs.Page as page;
 
 use json::Writer;
 use rtps_discovery::{Directory, Endpoint};
@@ -13,7 +13,7 @@ use rtps_lines::{durability_name, reliability_name, side_name};
 use std::alloc::{AllocError, Global};
 
 fn endpoint_object(endpoint: &Endpoint<'_>, alloc: Global) -> Made<Value>
-    ensures { IfOk result (λ value. value_json value ≡ endpoint_json (endpoint_value endpoint.now)) }
+    ensures { IfOk result (λ value. json_values.value_json value ≡ page.endpoint_json (endpoint_spec.endpoint_value endpoint.now)) }
 {
     let topic = name(endpoint.topic, alloc)?;
     let type_name = name(endpoint.type_name, alloc)?;
@@ -40,7 +40,7 @@ fn push_endpoint(
     text: &mut String,
     endpoint: &Endpoint<'_>,
 ) -> Result<(), AllocError>
-    ensures tokens { OnOk result (writer.new.tokens ≡ writer.old.tokens ++ json_tokens (endpoint_json (endpoint_value endpoint.now))) }
+    ensures tokens { OnOk result (writer.new.tokens ≡ writer.old.tokens ++ json_tokens (page.endpoint_json (endpoint_spec.endpoint_value endpoint.now))) }
     ensures before { writer.new.before ≡ writer.old.before }
 {
     let object = endpoint_object(endpoint, alloc)?;
@@ -54,7 +54,7 @@ pub(crate) fn push_directory(
     directory: &Directory<'_>,
 ) -> Result<(), Memory>
     ensures tokens { OnOk result (writer.new.tokens
-        ≡ writer.old.tokens ++ tokens_of_member (directory_member directory.now)) }
+        ≡ writer.old.tokens ++ json_text.tokens_of_member (page.directory_member directory.now)) }
     ensures before { writer.new.before ≡ writer.old.before }
 {
     let endpoints = directory.endpoints()?;

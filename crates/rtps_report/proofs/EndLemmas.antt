@@ -15,6 +15,7 @@ use Rattle.rtps_audit.specs.Intake as intake_spec
 use Rattle.rtps_audit.specs.Placed as placed_spec
 use Rattle.rtps_audit.specs.declared.placed.Placed.{Placed}
 use Rattle.rtps_fragments.specs.Announcements as announcements_spec
+use Rattle.rtps_fragments.specs.Hearing as hearing
 use Rattle.rtps_policies.specs.Announcing as announcing
 use Rattle.rtps_policies.specs.declared.announced.Announced.{Announced}
 use Rattle.rtps_policies.specs.declared.host.Address.{Address}
@@ -110,11 +111,11 @@ writer_more intake endpoints i d within tells =
 -- what is kept after the acts of one writer more
 pub writer_told : (intake : intake_spec.Intake) (announcing : List values.ActValue) (endpoints : List Endpoint) (i : ℕ) (d : Endpoint) (acts : List Placed) (told : ToldNodes) → i < length endpoints
     → introducing.tells_nodes (endpoint.endpoint_value (get_or endpoints i d)) ≡ true → map placed_spec.placed_value acts ≡ filter (placed_spec.is_from (endpoint.endpoint_value (get_or endpoints i d)).guid) (placed_spec.placed_in intake.acts)
-    → telling.IsToldBy announcing (told_to intake (take i endpoints) ++ map (λ (p : placed_spec.PlacedValue). p.act) (map placed_spec.placed_value acts)) told
+    → telling.IsToldBy announcing (told_to intake (take i endpoints) ++ map (λ (p : placed_spec.PlacedValue). p.act) (hearing.overheard_of (map placed_spec.placed_value acts))) told
     → telling.IsToldBy announcing (told_to intake (take (i + 1) endpoints)) told
 writer_told intake announcing endpoints i d acts told within tells are is =
     subst (λ those. telling.IsToldBy announcing those told)
-    (ap (λ (placed : List placed_spec.PlacedValue). told_to intake (take i endpoints) ++ map (λ (p : placed_spec.PlacedValue). p.act) placed) are ∙ writer_more intake endpoints i d within tells) is
+    (ap (λ (placed : List placed_spec.PlacedValue). told_to intake (take i endpoints) ++ map (λ (p : placed_spec.PlacedValue). p.act) (hearing.overheard_of placed)) are ∙ writer_more intake endpoints i d within tells) is
 
 -- the endpoints that are gone through are the settled ones
 pub endpoints_told : (those found : List Endpoint) (settled : List endpoint.EndpointValue) → those ≡ found → map endpoint.endpoint_value found ≡ settled → map endpoint.endpoint_value those ≡ settled

@@ -14,7 +14,6 @@ mod KeptLemmas
 mod LateLemmas
 mod MatchLemmas
 mod MatchingLemmas
-mod NamingLemmas
 mod NamingWalkLemmas
 mod NoPairLemmas
 pub mod Offered

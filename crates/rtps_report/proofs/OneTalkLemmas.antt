@@ -17,6 +17,7 @@ use Rattle.rtps_audit.specs.Placed as placed
 use Rattle.rtps_audit.specs.Said as said
 use Rattle.rtps_evidence.specs.OtherSide as other_side
 use Rattle.rtps_evidence.specs.Recorded as recorded
+use Rattle.rtps_evidence.specs.Spans as spans_spec
 use Rattle.rtps_evidence.specs.declared.first_numbers.FirstNumbers.{FirstNumbers}
 use Rattle.rtps_evidence.specs.declared.recorded.Arrived.{Arrived}
 use Rattle.rtps_evidence.specs.declared.recorded.ArrivedNumbers.{ArrivedNumbers}
@@ -61,7 +62,7 @@ use Rattle.rtps_report.proofs.SameLists.{same_keys, same_members}
 one_recorded : HasOneMap → (spans : Bool) (from : ℕ) (pair : Pair) (intake : intake.Intake) (one other : Recorded) → recorded.IsRecordedBy spans from pair intake one → recorded.IsRecordedBy spans from pair intake other → one ≡ other
 one_recorded unique spans from pair intake one other is also =
     let span : is.span ≡ also.span = one_extent unique spans from pair intake is.span also.span is.is_extent also.is_extent in
-    let same = subst (λ (s : Span). recorded.AreRecordedIn s pair (placed.placed_in (said.datagrams_until s.until intake.acts)) one) span is.are_recorded in
+    let same = subst (λ (s : Span). recorded.AreRecordedIn s pair (placed.placed_in (said.datagrams_until s.until intake.acts)) (placed.placed_in (spans_spec.heard_in s pair intake.acts)) one) span is.are_recorded in
     let made : ℕ → ℕ → Recorded = λ numbers recorded. record { numbers = numbers; recorded = recorded } in
     ap₂ made (same.numbers ∙ sym also.are_recorded.numbers) (same.recorded ∙ sym also.are_recorded.recorded)
 

@@ -9,6 +9,7 @@ use Rattle.rtps_discovery.specs.Directory as directory
 use Rattle.rtps_discovery.specs.Endpoint as endpoint
 use Rattle.rtps_audit.specs.Intake as intake_spec
 use Rattle.rtps_audit.specs.Placed as placed
+use Rattle.rtps_fragments.specs.Hearing as hearing
 use Rattle.rtps_policies.specs.Announcing as announcing
 use Rattle.rtps_policies.specs.declared.announced.Announced.{Announced}
 use Rattle.rtps_policies.specs.declared.host.Address.{Address}
@@ -20,9 +21,9 @@ use Rattle.rtps_who.specs.Samples as samples
 use Rattle.rtps_who.specs.declared.who.Who.{Who}
 use Rattle.rtps_report.specs.declared.end.End.{End}
 
--- the acts of a writer
+-- the acts of a writer, and behind each the samples in fragments that it tells whoever hears all
 abbrev pub acts_by : intake_spec.Intake → endpoint.EndpointValue → List values.ActValue
-acts_by intake writer = map (λ placed. placed.act) (filter (placed.is_from writer.guid) (placed.placed_in intake.acts))
+acts_by intake writer = map (λ placed. placed.act) (hearing.overheard_of (filter (placed.is_from writer.guid) (placed.placed_in intake.acts)))
 
 -- those of the writers that tell of nodes, one writer after another
 abbrev pub acts_told : intake_spec.Intake → directory.Entries → List values.ActValue

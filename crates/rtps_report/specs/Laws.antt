@@ -57,17 +57,18 @@ ReportedRowsAreExact =
     (asked : AskedAudit) (recording : List (List ℕ)) (report : Report) → reported.IsReportAs asked recording report
     → All (λ row. IsVerdictAs asked.fragments asked.from row.pair recording row.verdict) report.rows.items
 
--- the acts of the first datagrams; where fragments are read, each with the samples that it tells
-abbrev pub first_acts : Fragments → Option ℕ → List (List ℕ) → List (List values.ActValue)
-first_acts Fragments.Skipped until recording = speech.acts_by_datagram (said.datagrams_until until recording)
-first_acts Fragments.Read until recording = laws.first_acts_with_samples until recording
+-- the acts of the first datagrams; where fragments are read, each with the samples that it tells this reader
+abbrev pub first_acts : Fragments → Guid → Option ℕ → List (List ℕ) → List (List values.ActValue)
+first_acts Fragments.Skipped reader until recording = speech.acts_by_datagram (said.datagrams_until until recording)
+first_acts Fragments.Read reader until recording = laws.first_acts_heard reader until recording
 
 -- An unanswered number is what its words say, of the acts of the first datagrams of a recording; where fragments are read, of these and the
--- samples that they tell.
+-- samples that they tell the reader.
 abbrev pub UnansweredIsByItsWordsIn : Fragments → Option ℕ → List (List ℕ) → Type 0
 UnansweredIsByItsWordsIn fragments until recording =
     (times : List (Option ℕ)) (since : Option Location) (pair : Pair) (n : ℕ)
-    → (outcomes.is_unanswered times since pair (placed.placed_in (first_acts fragments until recording)) n ≡ true) ↔ unanswered_law.IsUnanswered times since pair (placed.placed_in (first_acts fragments until recording)) n
+    → (outcomes.is_unanswered times since pair (placed.placed_in (first_acts fragments pair.reader until recording)) n ≡ true)
+    ↔ unanswered_law.IsUnanswered times since pair (placed.placed_in (first_acts fragments pair.reader until recording)) n
 
 -- it is so in each report
 abbrev pub ReportedUnansweredIsByItsWords : Type 0
@@ -82,8 +83,8 @@ pub record IsExactRow (spans : Bool) (asked : AskedAudit) (beside : other_side.B
   pub extent : spans_spec.IsExtent spans asked.from row.pair (recorded_samples.intake_as asked.fragments recording) span
   pub first : row_facts.row_from asked.from row.evidence.in_span ≡ span.from
   pub until : row_facts.left_in row.evidence.in_span ≡ span.until
-  pub shown : evidence.IsShown (other_side.is_there (recorded_samples.intake_as asked.fragments recording).acts beside.other row.pair) span.from (spans_spec.since_of span) row.pair (first_acts asked.fragments span.until recording) row.evidence
-  pub in_span : evidence.IsBeside spans beside span row.pair (recorded_samples.intake_as asked.fragments recording).acts (first_acts asked.fragments span.until recording) row.evidence.in_span
+  pub shown : evidence.IsShown (other_side.is_there (recorded_samples.intake_as asked.fragments recording).acts beside.other row.pair) span.from (spans_spec.since_of span) row.pair (first_acts asked.fragments row.pair.reader span.until recording) row.evidence
+  pub in_span : evidence.IsBeside spans beside span row.pair (recorded_samples.intake_as asked.fragments recording).acts (first_acts asked.fragments row.pair.reader span.until recording) row.evidence.in_span
 
 -- each explained row of an audit is such a row, in no span
 abbrev pub AuditedRowsAreExact : Type 0

@@ -4,10 +4,10 @@ use Rattle.std.specs.Prelude.{ℕ, ℤ, Bool, true, false, List}
 use Rattle.rtps_evidence.specs.OtherSide as other_side
 use Rattle.rtps_evidence.specs.declared.explanation.Explained.{Explained}
 use Rattle.rtps_evidence.specs.Explanation as explanation
-use Rattle.rtps_audit.specs.Report as report_spec
 use Rattle.rtps_audit.specs.declared.report.Report.{Report}
 use Rattle.rtps_audit.specs.declared.verdict.Verdict.{Verdict}
 use Rattle.rtps_fragments.specs.RecordedSamples as recorded_samples
+use Rattle.rtps_fragments.specs.SampleReport as sample_report
 use Rattle.rtps_report.specs.declared.audited.AskedAudit.{AskedAudit}
 
 -- the verdict is that each number is acknowledged
@@ -22,10 +22,10 @@ number_of (Verdict.Open number) = number
 number_of (Verdict.Conflict number) = number
 number_of (Verdict.Unfounded datagram number) = number
 
--- it is the report on the recording, by the numbers that are asked about. Where fragments are read, it is of the acts with the samples
--- among them
+-- it is the report on the recording, by the numbers that are asked about. Where fragments are read, each row is by the samples that its reader
+-- can put together
 abbrev pub IsReportAs : AskedAudit → List (List ℕ) → Report → Type 0
-IsReportAs asked recording report = report_spec.IsReportBy asked.from (recorded_samples.intake_as asked.fragments recording) report
+IsReportAs asked recording report = sample_report.IsReportHeard asked.from (recorded_samples.intake_as asked.fragments recording) report
 
 -- the same report with what each of its rows rests on, by the whole recording
 abbrev pub IsAuditExplained : AskedAudit → List (List ℕ) → Explained → Type 0

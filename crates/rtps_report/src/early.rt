@@ -10,9 +10,10 @@ ghost use Rattle.rtps_report.specs.Participants as participants;
 
 use crate::participant::joined_of;
 use crate::recording::{Recording, datagrams_of};
+use bumpalo::Bump;
 use rtps_audit::Placed;
 use rtps_evidence::Location;
-use rtps_fragments::{FragmentWalk, Fragments, Indexed, Samples, index_as};
+use rtps_fragments::{FragmentWalk, Fragments, Indexed, index_as};
 use rtps_ids::{EntityId, Guid, GuidPrefix, Memory};
 use rtps_policies::participant_of;
 use rtps_receiver::Spoken;
@@ -100,16 +101,16 @@ fn early_in(
     Ok(early)
 }
 
-/// What a recording announces. The samples that it borrows are put into `samples`.
+/// What a recording announces. The samples that it borrows are put into the arena.
 fn announcements_of<'a>(
     alloc: Global,
     recording: &'a Recording,
-    samples: &'a mut Samples,
+    arena: &'a Bump,
 ) -> Result<Vec<Placed<'a>>, Memory>
     ensures { IfOk result (λ announcements. map placed.placed_value announcements.items ≡ announcements_spec.announcements_in (recorded_samples.intake_as ReadFragments recording.entry.now.datagrams).announcing) }
 {
     let datagrams = datagrams_of(alloc, recording)?;
-    let indexed = index_as(alloc, &datagrams, Fragments::Read, samples)?;
+    let indexed = index_as(alloc, &datagrams, Fragments::Read, arena)?;
     let Indexed {
         index: _,
         announcements,
@@ -122,8 +123,8 @@ fn announcements_of<'a>(
 pub(crate) fn early_of(alloc: Global, recording: &Recording) -> Result<u64, Memory>
     ensures { IfOk result (λ early. early ≡ early_spec.early_of recording.now.datagrams) }
 {
-    let mut samples = Samples::none(alloc);
-    let announcements = announcements_of(alloc, recording, &mut samples)?;
+    let arena = Bump::new(alloc);
+    let announcements = announcements_of(alloc, recording, &arena)?;
     let joined = joined_of(alloc, &announcements)?;
     let datagrams = datagrams_of(alloc, recording)?;
     let early = early_in(alloc, &datagrams, &joined)?;

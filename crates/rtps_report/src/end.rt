@@ -4,13 +4,17 @@ ghost use Rattle.rtps_audit.specs.Index as index_spec;
 ghost use Rattle.rtps_audit.specs.Intake as intake;
 ghost use Rattle.rtps_audit.specs.Placed as placed;
 ghost use Rattle.rtps_fragments.specs.Announcements as announcements_spec;
+ghost use Rattle.rtps_fragments.specs.Hearing as hearing;
 ghost use Rattle.rtps_who.specs.Introducing as introducing;
 ghost use Rattle.rtps_who.specs.Recorded as recorded;
 ghost use Rattle.rtps_who.specs.Telling as telling;
 ghost use Rattle.rtps_report.specs.Ends as ends;
 
-use rtps_audit::{Index, Placed};
-use rtps_discovery::Directory;
+use crate::talk::ReadRecording;
+use bumpalo::Bump;
+use rtps_audit::Placed;
+use rtps_fragments::laws::acts_are_overheard_without_fragments;
+use rtps_fragments::{have_fragments, overheard_of};
 use rtps_ids::Memory;
 use rtps_policies::Address;
 use rtps_who::{Introductions, Node, Process, ToldNodes, Who, tells_nodes};
@@ -55,20 +59,40 @@ fn note_writer<'a>(
     Ok(())
 }
 
+/// Notes the nodes that these acts tell, by the samples in fragments that they tell whoever hears them. After `Memory` what is kept is of no
+/// use.
+fn note_overheard<'a>(
+    alloc: Global,
+    told: &mut ToldNodes<'a>,
+    introductions: &Introductions<'_>,
+    acts: &[Placed<'a>],
+    arena: &'a Bump,
+) -> Result<(), Memory>
+    ensures { OnOk result ((announcing before : List values.ActValue) → introducing.IsIntroducedBy announcing introductions.now → telling.IsToldBy announcing before told.old
+        → telling.IsToldBy announcing (before ++ map (λ placed. placed.act) (hearing.overheard_of (map placed.placed_value acts.now))) told.new) }
+{
+    acts_are_overheard_without_fragments();
+    if !have_fragments(acts) {
+        return note_writer(told, introductions, acts);
+    }
+    let heard = overheard_of(alloc, arena, acts)?;
+    note_writer(told, introductions, heard)
+}
+
 /// What the writers that tell of nodes tell, one writer after another.
 fn told_of<'a>(
     alloc: Global,
     introductions: &Introductions<'_>,
-    index: &Index<'a>,
-    directory: &Directory<'a>,
+    read: &ReadRecording<'_, 'a, '_, '_>,
 ) -> Result<ToldNodes<'a>, Memory>
-    ensures { IfOk result (λ told. (intake : intake.Intake) (announcing : List values.ActValue) → index_spec.IsIndexBy intake index.now → introducing.IsIntroducedBy announcing introductions.now
-        → telling.IsToldBy announcing (ends.acts_told intake directory.now.endpoints) told) }
+    ensures { IfOk result (λ told. (intake : intake.Intake) (announcing : List values.ActValue) → index_spec.IsIndexBy intake read.now.index.now → introducing.IsIntroducedBy announcing introductions.now
+        → telling.IsToldBy announcing (ends.acts_told intake read.now.directory.now.endpoints) told) }
 {
     let mut told = ToldNodes::new(alloc);
-    for endpoint in &directory.endpoints()? {
+    for endpoint in &read.directory.endpoints()? {
         if tells_nodes(endpoint) {
-            note_writer(&mut told, introductions, index.acts_of(endpoint.guid))?;
+            let acts = read.index.acts_of(endpoint.guid);
+            note_overheard(alloc, &mut told, introductions, acts, read.arena)?;
         }
     }
     Ok(told)
@@ -77,15 +101,13 @@ fn told_of<'a>(
 /// By which names people know the ends of a recording: by its announcements, its index, and what it announces.
 pub(crate) fn who_of<'a>(
     alloc: Global,
-    announcements: &[Placed<'a>],
-    index: &Index<'a>,
-    directory: &Directory<'a>,
+    read: &ReadRecording<'_, 'a, '_, '_>,
 ) -> Result<Who<'a>, Memory>
-    ensures { IfOk result (λ who. (intake : intake.Intake) → index_spec.IsIndexBy intake index.now → map placed.placed_value announcements.now ≡ announcements_spec.announcements_in intake.announcing
-        → recorded.IsWhoIn (ends.recorded_in intake directory.now.endpoints) who) }
+    ensures { IfOk result (λ who. (intake : intake.Intake) → index_spec.IsIndexBy intake read.now.index.now → map placed.placed_value read.now.announcements.now ≡ announcements_spec.announcements_in intake.announcing
+        → recorded.IsWhoIn (ends.recorded_in intake read.now.directory.now.endpoints) who) }
 {
-    let introductions = introductions_of(alloc, announcements)?;
-    let told = told_of(alloc, &introductions, index, directory)?;
+    let introductions = introductions_of(alloc, read.announcements)?;
+    let told = told_of(alloc, &introductions, read)?;
     Ok(Who {
         introductions,
         told,

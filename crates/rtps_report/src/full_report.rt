@@ -20,10 +20,11 @@ use crate::recording::{Recording, datagrams_of};
 use crate::row_facts::facts_of;
 use crate::row_pairs::{Wanted, row_pairs};
 use crate::talk::{ReadRecording, Talk, talk_in};
+use bumpalo::Bump;
 use rtps_audit::{Index, Report, Watch};
 use rtps_discovery::laws::one_map;
 use rtps_evidence::{Explained, OtherSide, Sides, explain_pairs};
-use rtps_fragments::{Fragments, Indexed, Samples, Source, index_told};
+use rtps_fragments::{Fragments, Indexed, Source, index_told};
 use rtps_ids::Memory;
 use std::alloc::Global;
 
@@ -62,12 +63,12 @@ struct IndexAndTalk<'a> {
     talk: Talk<'a>,
 }
 
-/// The index of a recording by which the verdicts are that are asked for, and who does not talk. `samples` is where the samples are put
-/// that both borrow. `Memory` is answered where there is none for it.
+/// The index of a recording by which the verdicts are that are asked for, and who does not talk. The samples that both borrow are put into the
+/// arena. `Memory` is answered where there is none for it.
 fn noted_in<'a>(
     alloc: Global,
     inquiry: Inquiry<'a>,
-    samples: &'a mut Samples,
+    arena: &'a Bump,
     other: Option<OtherSide<'_, '_>>,
 ) -> Result<IndexAndTalk<'a>, Memory>
     ensures { (theirs : Option other_side.OtherRecording) → other_side.IsOtherSide theirs other.entry → IfOk result (λ noted. index_spec.IsIndexBy (recorded_samples.intake_as Read inquiry.entry.recording.now.datagrams) noted.index
@@ -88,7 +89,7 @@ fn noted_in<'a>(
         fragments: Fragments::Read,
     };
     let mut acquaintance = Acquaintance::new(alloc, recording.times());
-    let indexed = index_told(alloc, source, samples, &mut acquaintance)?;
+    let indexed = index_told(alloc, source, arena, &mut acquaintance)?;
     let talk = talk_in(
         alloc,
         &ReadRecording {
@@ -99,6 +100,7 @@ fn noted_in<'a>(
             other,
             directory: indexed.index.directory(),
             announcements: &indexed.announcements,
+            arena,
         },
         acquaintance,
     )?;
@@ -155,12 +157,12 @@ fn talk_facts_of(alloc: Global, talk: &Talk<'_>) -> Result<TalkFacts, Memory>
     })
 }
 
-/// The report on a recording, of what is asked. Its rows are held against the other recording, where there is one. `samples` is where
-/// the samples are put that it borrows. It tells how far it is. `Memory` is answered where what is kept cannot grow.
+/// The report on a recording, of what is asked. Its rows are held against the other recording, where there is one. The samples that it borrows
+/// are put into the arena. It tells how far it is. `Memory` is answered where what is kept cannot grow.
 pub fn report_on<'a, P: Watch>(
     alloc: Global,
     inquiry: Inquiry<'a>,
-    samples: &'a mut Samples,
+    arena: &'a Bump,
     watch: &mut P,
 ) -> Result<FullReport<'a>, Memory>
     ensures { IfOk result (full_report.IsReportOf (asked_spec.asked_value inquiry.entry.asked.now) (reader_side.arrived_value inquiry.entry.arrived) inquiry.entry.recording.now) }
@@ -170,14 +172,15 @@ pub fn report_on<'a, P: Watch>(
         asked,
         arrived,
     } = inquiry;
-    let mut theirs = Samples::none(alloc);
-    let side = side_by(alloc, arrived, &mut theirs)?;
+    let theirs = Bump::new(alloc);
+    let side = side_by(alloc, arrived, &theirs)?;
     let other = beside(&side);
-    let IndexAndTalk { index, talk } = noted_in(alloc, inquiry, samples, other)?;
+    let IndexAndTalk { index, talk } = noted_in(alloc, inquiry, arena, other)?;
     let sides = Sides {
         index: &index,
         other,
         times: recording.times(),
+        arena,
     };
     let explained = explained_of(alloc, &sides, asked, &talk, watch)?;
     let order = order_by(alloc, inquiry, &explained.rows, talk.ways)?;

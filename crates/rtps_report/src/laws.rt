@@ -8,7 +8,10 @@ ghost use Rattle.rtps_report.specs.Patterns as patterns;
 use rtps_audit::laws::first_datagrams_say_the_same;
 use rtps_discovery::laws::{matches_and_pairs, one_map};
 use rtps_evidence::laws::{pairs_have_one_explanation, unanswered_is_by_its_words};
-use rtps_fragments::laws::{first_datagrams_decide, first_datagrams_tell_the_same};
+use rtps_fragments::laws::{
+    acts_are_heard_without_fragments, first_datagrams_decide, first_datagrams_tell_the_same,
+    skipped_fragments_are_not_sent,
+};
 
 /// A topic fits a pattern exactly where it is the pattern with some octets in the place of each `*`.
 pub fn fits_as_filled()
@@ -26,10 +29,12 @@ pub fn rows_are_exact()
     first_datagrams_say_the_same();
     first_datagrams_decide();
     first_datagrams_tell_the_same();
+    skipped_fragments_are_not_sent();
+    acts_are_heard_without_fragments();
 }
 
 /// An unanswered number of a report is what its words say, with no walk: of the acts of a recording, or of its first datagrams, and where
-/// fragments are read of the samples among them.
+/// fragments are read of the samples that they tell the reader.
 pub fn reported_unanswered_is_by_its_words()
     ensures { laws.ReportedUnansweredIsByItsWords }
 {

@@ -71,7 +71,7 @@ pub use row_facts::{
 };
 pub use rtps_audit::{Unwatched, Watch};
 pub use rtps_evidence::{Seconds, Times};
-pub use rtps_fragments::{Fragments, Samples};
+pub use rtps_fragments::Fragments;
 pub use side_facts::{SideFacts, facts_of_side};
 pub use silences::Silences;
 pub use talk::{LeftOut, Talk};

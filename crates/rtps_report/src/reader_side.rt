@@ -4,9 +4,10 @@ ghost use Rattle.rtps_report.specs.ReaderSide as reader_side;
 
 use crate::acquaintance::namings_of;
 use crate::recording::{Recording, datagrams_of};
+use bumpalo::Bump;
 use rtps_audit::Index;
 use rtps_evidence::OtherSide;
-use rtps_fragments::{Fragments, Indexed, Samples, index_as};
+use rtps_fragments::{Fragments, index_as};
 use rtps_ids::Memory;
 use rtps_policies::Namings;
 use std::alloc::Global;
@@ -18,17 +19,17 @@ pub(crate) struct ReaderSide<'b> {
     namings: Namings,
 }
 
-/// That of a recording. The samples that it borrows are put into `samples`. `Memory` is answered where there is none for it.
+/// That of a recording. The samples that it borrows are put into the arena. `Memory` is answered where there is none for it.
 fn side_of<'b>(
     alloc: Global,
     recording: &'b Recording,
-    samples: &'b mut Samples,
+    arena: &'b Bump,
 ) -> Result<ReaderSide<'b>, Memory>
     ensures { IfOk result (reader_side.IsReaderSide (reader_side.other_of recording.now)) }
 {
     let datagrams = datagrams_of(alloc, recording)?;
     let namings = namings_of(alloc, &datagrams)?;
-    let indexed = index_as(alloc, &datagrams, Fragments::Read, samples)?;
+    let indexed = index_as(alloc, &datagrams, Fragments::Read, arena)?;
     Ok(ReaderSide {
         index: indexed.index,
         namings,
@@ -39,14 +40,14 @@ fn side_of<'b>(
 pub(crate) fn side_by<'b>(
     alloc: Global,
     arrived: Option<&'b Recording>,
-    samples: &'b mut Samples,
+    arena: &'b Bump,
 ) -> Result<Option<ReaderSide<'b>>, Memory>
     ensures { IfOk result (reader_side.IsReaderSideBy (reader_side.other_by (reader_side.arrived_value arrived.entry))) }
 {
     let Some(recording) = arrived else {
         return Ok(None);
     };
-    let side = side_of(alloc, recording, samples)?;
+    let side = side_of(alloc, recording, arena)?;
     Ok(Some(side))
 }
 

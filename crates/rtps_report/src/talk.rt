@@ -38,6 +38,7 @@ use crate::topics::topic_of;
 use crate::two_lives::TwoLives;
 use crate::visits::Seen;
 use crate::ways::{Ways, ways_of_counted};
+use bumpalo::Bump;
 use rtps_audit::{Index, Placed};
 use rtps_discovery::{Directory, Match, Pair};
 use rtps_evidence::{
@@ -108,6 +109,8 @@ pub(crate) struct ReadRecording<'r, 'a, 'o, 'b> {
     pub(crate) other: Option<OtherSide<'o, 'b>>,
     pub(crate) directory: &'r Directory<'a>,
     pub(crate) announcements: &'r [Placed<'a>],
+    /// Where the octets are kept that the report borrows, of samples that come in fragments.
+    pub(crate) arena: &'a Bump,
 }
 
 impl<'a> Talk<'a> {
@@ -293,6 +296,7 @@ fn counted_of<'a>(
         index: read.index,
         other: read.other,
         times: read.times,
+        arena: read.arena,
     };
     let mut counted = Vec::new(alloc);
     for found in matched {
@@ -396,7 +400,7 @@ pub(crate) fn talk_in<'a>(
         matches,
         times: _,
     } = acquaintance;
-    let who = who_of(alloc, read.announcements, read.index, read.directory)?;
+    let who = who_of(alloc, read)?;
     let unfit = unfit_in(&announced, &who, read)?;
     let mut talk = Talk {
         unfit: unfit_of(alloc, &unfit)?,

@@ -11,10 +11,9 @@ ghost use Rattle.rtps_text.specs.ShowText as show_text;
 ghost use Rattle.rtps_text.specs.ListText as list_text;
 ghost use Rattle.rtps_fragments.specs.declared.fragments.Fragments.{Fragments};
 
-use rtps_audit::laws::one_report;
 use rtps_discovery::laws::one_map;
 use rtps_evidence::laws::one_explanation;
-use rtps_fragments::laws::intake_stays_without_fragments;
+use rtps_fragments::laws::{intake_stays_without_fragments, one_report_heard};
 use rtps_report::laws::one_full_report;
 
 /// What is printed of a recording, and how a run on it ends, is decided by its datagrams alone; by `audit`, as JSON too, also by how many
@@ -29,7 +28,7 @@ pub fn one_text()
     ensures why { (asked : asked.AskedValue) (other : Option recording.RecordingValue) → laws.HasOneText (why_text.IsWhyAs asked other) }
 {
     one_map();
-    one_report();
+    one_report_heard();
     one_explanation();
     one_full_report();
 }

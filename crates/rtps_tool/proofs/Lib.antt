@@ -1,4 +1,5 @@
-pub mod CaptureLemmas
+pub mod BlocksLemmas
+pub mod PiecesLemmas
 pub mod LimitsLemmas
 pub mod LinesLemmas
 pub mod OneText

@@ -1,13 +1,15 @@
 -- Facts on what `clap` found.
-use Rattle.std.proofs.Common.{◌≡◌, ◌⊎◌, inl, inr, Option, None, Some, Result, Ok, Err, refl, unwrap_or}
+use Rattle.std.proofs.Common.{◌≡◌, ◌∙◌, ◌⊎◌, ap, sym, codes, false, true, inl, inr, List, Option, None, Some, Result, Ok, Err, refl, unwrap_or}
 use Rattle.std.specs.Prelude.{OnOk}
-use Rattle.std.specs.Option.{option_map}
-use Rattle.clap.specs.Words.{HasKind, IsAmong, Kinds, kind_of}
+use Rattle.std.specs.Option.{IsSome, is_some, option_map}
+use Rattle.clap.specs.Words.{HasKind, IsAmong, Kinds, Row, Text, kind_of}
 use Rattle.clap.specs.declared.error.Error.{Error}
 use Rattle.clap.specs.declared.error.kind.ErrorKind.{ErrorKind}
 use Rattle.clap.specs.declared.error.kind.ErrorKind.TheVariants.{InvalidValue, UnknownArgument, InvalidSubcommand, NoEquals, ValueValidation, TooManyValues, TooFewValues, WrongNumberOfValues, ArgumentConflict, MissingRequiredArgument, MissingSubcommand, DisplayHelp, DisplayHelpOnMissingArgumentOrSubcommand, DisplayVersion, Io, Format, OutOfMemory}
 use Rattle.rtps_tool.specs.Words as words
+use Rattle.rtps_tool.specs.declared.command.Choice.{Choice}
 use Rattle.rtps_tool.specs.declared.command.WordFault.{WordFault}
+use Rattle.rtps_tool.specs.declared.runs.Form.{Form}
 
 -- a view of a value or its default
 pub unwrap_or-view : {A X : Type 0} (view : A → X) (found : Option A) (default : A) → view (unwrap_or found default) ≡ unwrap_or (option_map view found) (view default)
@@ -61,3 +63,28 @@ by_clap DisplayVersion error is = absurd cc
 by_clap Io error is = absurd cc
 by_clap Format error is = absurd cc
 by_clap OutOfMemory error is = absurd cc
+
+-- a subcommand without matches was not found
+pub unfound : {X : Type 0} (matches : Option X) (found : Option Text) (name : Text) → matches ≡ None → (found ≡ Some name → IsSome matches) → found ≡ Some name → ⊥
+unfound matches found name none some is =
+    let e : false ≡ true = sym (ap is_some none) ∙ some is in cc
+
+-- the name of what was found, of its name and its rows
+names : {X : Type 0} (name : X → Text) (rows : X → List Row) (found : Option X) → option_map name found ≡ option_map (λ (p : Text × List Row). p.0) (option_map (λ x. (name x, rows x)) found)
+names name rows None = refl
+names name rows (Some x) = refl
+
+pub name_found : {X : Type 0} (name : X → Text) (rows : X → List Row) (found : Option X) (pair : Text × List Row) → option_map (λ x. (name x, rows x)) found ≡ Some pair → option_map name found ≡ Some pair.0
+name_found name rows found pair is = names name rows found ∙ ap (option_map (λ (p : Text × List Row). p.0)) is
+
+-- a choice has the name of one of the subcommands
+pub none_chosen : (found : Option Text) (choice : Choice) → (found ≡ Some (codes "check") → ⊥) → (found ≡ Some (codes "show") → ⊥) → (found ≡ Some (codes "list") → ⊥) → (found ≡ Some (codes "audit") → ⊥)
+    → (found ≡ Some (codes "why") → ⊥) → (found ≡ Some (codes "page") → ⊥) → (found ≡ Some (codes "sample") → ⊥) → found ≡ Some (words.subcommand_name choice) → ⊥
+none_chosen found (Choice.Report file arrived limits Form.Check demands) check show list audit why page sample is = check is
+none_chosen found (Choice.Report file arrived limits Form.CheckJson demands) check show list audit why page sample is = check is
+none_chosen found (Choice.Report file arrived limits Form.Why demands) check show list audit why page sample is = why is
+none_chosen found (Choice.Report file arrived limits Form.Page demands) check show list audit why page sample is = page is
+none_chosen found (Choice.Show file limits captures fragments) check show list audit why page sample is = show is
+none_chosen found (Choice.List file limits captures fragments) check show list audit why page sample is = list is
+none_chosen found (Choice.Audit file limits captures form asked) check show list audit why page sample is = audit is
+none_chosen found Choice.Sample check show list audit why page sample is = sample is

@@ -1,6 +1,8 @@
 pub mod Options
 pub mod Outcomes
+pub mod CaptureBlocks
 pub mod Choices
+pub mod Collected
 pub mod FaultText
 pub mod Forms
 pub mod Laws

@@ -5,9 +5,11 @@ use Rattle.std.specs.Prelude.{ℕ, ◌++◌, List, map, slice_range, Option, Non
 use Rattle.rtps_capture.specs.Capture as capture
 use Rattle.rtps_capture.specs.declared.byte_range.ByteRange.{ByteRange}
 use Rattle.rtps_capture.specs.declared.capture.CaptureFault.{CaptureFault}
+use Rattle.rtps_capture.specs.declared.capture_reader.Summary.{Summary}
 use Rattle.rtps_capture.specs.declared.captures.Captures.{Captures}
 use Rattle.rtps_report.specs.Recording as recording
 use Rattle.rtps_report.specs.declared.recording.Reasons.{Reasons}
+use Rattle.rtps_tool.specs.Collected as collected
 use Rattle.rtps_tool.specs.declared.faults.RecFault.{RecFault}
 
 -- the fault of a capture as that of a recording
@@ -30,6 +32,24 @@ reasons_of answer = record { pieces = answer.pieces; cut = answer.cut; other = a
 abbrev pub reasons_told : Captures → capture.Answer → Option Reasons
 reasons_told Captures.Classic answer = None
 reasons_told Captures.Any answer = Some (reasons_of answer)
+
+-- the same, by what is told of the frames of a capture that was read
+abbrev pub reasons_in : Summary → Reasons
+reasons_in summary = record { pieces = summary.pieces; cut = summary.cut; other = summary.other; links = record { number = summary.links; first = summary.first_link } }
+
+-- the same reasons, where they are told
+abbrev pub reasons_if_told : Captures → Summary → Option Reasons
+reasons_if_told Captures.Classic summary = None
+reasons_if_told Captures.Any summary = Some (reasons_in summary)
+
+-- the recording that these datagrams are, where this is told of the frames of their capture
+abbrev pub recording_collected : Captures → collected.CollectedValue → Summary → recording.RecordingValue
+recording_collected captures collected summary = record {
+  datagrams = collected.datagrams;
+  times = record { start = summary.start; end = summary.end; of_datagrams = collected.times; frames = collected.frames };
+  ignored = Some (recording.ignored_by (reasons_in summary));
+  reasons = reasons_if_told captures summary;
+}
 
 -- the datagrams stand in the file, or behind it where their packet came in fragments
 abbrev pub recording_told : Captures → List ℕ → Result capture.Answer CaptureFault → Result recording.RecordingValue RecFault

@@ -4,7 +4,7 @@
 -- same, say from which number on is asked, which rows are asked for, when a row is clean, and how many rows there have to be. One names
 -- another recording, made at the host of readers: of it and FILE one at most is standard input, which can be read once. A flag of `check`
 -- and of `audit` asks for JSON, and an option of `audit` says from which number on it asks.
-use Rattle.std.specs.Prelude.{ℕ, ◌≡◌, ◌≢◌, ◌-◌, ◌^◌, codes, Bool, true, false, List, [], ◌∷◌, IfSome, Option, None, Some, map, unwrap_or}
+use Rattle.std.specs.Prelude.{ℕ, ◌≡◌, ◌≢◌, ◌⊎◌, ◌-◌, ◌^◌, codes, Bool, true, false, List, [], ◌∷◌, IfSome, Option, None, Some, map, unwrap_or}
 use Rattle.std.specs.Option.{option_and_then, option_map}
 use Rattle.std.specs.Str.Parse.{digits_value, without_leading_plus}
 use Rattle.clap.specs.Words.{App, IsAmong, IsUnsignedIn, Kinds, Row, Rule, Text, all_of, fault_of, first_of, kind_of, one_of, new_app, new_rule, subcommand_of, with_rule, with_subcommand}
@@ -243,17 +243,27 @@ HasItsDemands (Choice.List file limits captures fragments) rows = AreFragmentsGi
 HasItsDemands (Choice.Audit file limits captures form asked) rows = IsAuditGiven rows asked
 HasItsDemands Choice.Sample rows = Unit {0}
 
--- the limits are those that were given, each the usual one where it was not
-pub record AreLimitsGiven (rows : List Row) (limits : Limits) : Type 0 where
-  pub datagrams : IsGivenOr limits_spec.usual.datagrams (first_of (codes "DATAGRAMS") rows) limits.datagrams
-  pub octets : IsGivenOr limits_spec.usual.octets (first_of (codes "OCTETS") rows) limits.octets
+-- the limits are those that were given; one that was not is that of `unchosen`
+pub record AreLimitsGiven (unchosen : Limits) (rows : List Row) (limits : Limits) : Type 0 where
+  pub datagrams : IsGivenOr unchosen.datagrams (first_of (codes "DATAGRAMS") rows) limits.datagrams
+  pub octets : IsGivenOr unchosen.octets (first_of (codes "OCTETS") rows) limits.octets
+
+-- FILE or the other recording is standard input
+abbrev pub IsStandardRead : Text → Option Text → Type 0
+IsStandardRead file arrived = (file ≡ codes "-") ⊎ (arrived ≡ Some (codes "-"))
+
+-- The limits of a report are those that were given. One that was not is the usual one where standard input is read; else both
+-- recordings are files, and it is that of files.
+pub record AreReportLimits (file : Text) (arrived : Option Text) (rows : List Row) (limits : Limits) : Type 0 where
+  pub standard : IsStandardRead file arrived → AreLimitsGiven limits_spec.usual rows limits
+  pub files : ¬ IsStandardRead file arrived → AreLimitsGiven limits_spec.of_files rows limits
 
 -- its limits are those that were given
 abbrev pub HasItsLimits : Choice → List Row → Type 0
-HasItsLimits (Choice.Report file arrived limits form demands) rows = AreLimitsGiven rows limits
-HasItsLimits (Choice.Show file limits captures fragments) rows = AreLimitsGiven rows limits
-HasItsLimits (Choice.List file limits captures fragments) rows = AreLimitsGiven rows limits
-HasItsLimits (Choice.Audit file limits captures form asked) rows = AreLimitsGiven rows limits
+HasItsLimits (Choice.Report file arrived limits form demands) rows = AreReportLimits (string_bytes file) (option_map string_bytes arrived) rows limits
+HasItsLimits (Choice.Show file limits captures fragments) rows = AreLimitsGiven limits_spec.usual rows limits
+HasItsLimits (Choice.List file limits captures fragments) rows = AreLimitsGiven limits_spec.usual rows limits
+HasItsLimits (Choice.Audit file limits captures form asked) rows = AreLimitsGiven limits_spec.usual rows limits
 HasItsLimits Choice.Sample rows = Unit {0}
 
 -- the choice has the name of the subcommand that was found, its FILE, its other recording, its flag, its limits, its captures, and what it

@@ -94,7 +94,7 @@ impl Choice {
 }
 
 /// The text, if there is one.
-fn text_of(name: &Option<String>) -> Option<&str>
+pub(crate) fn text_of(name: &Option<String>) -> Option<&str>
     ensures { option_map (λ text. text.now) result ≡ option_map string_bytes name.now }
 {
     match name {

@@ -3,7 +3,7 @@ ghost use Rattle.std.specs.Io.KnownBytes.{Appends};
 ghost use Rattle.rtps_tool.specs.FaultText as fault_text;
 ghost use Rattle.rtps_tool.specs.Statuses as statuses;
 
-use rtps_capture::CaptureFault;
+use rtps_capture::{CaptureFault, ReadFault};
 use rtps_ids::Memory;
 use rtps_parts::NameOctets;
 use rtps_report::Ending;
@@ -165,6 +165,19 @@ impl From<RecFault> for RunFault {
         match fault {
             RecFault::Memory => RunFault::Memory,
             _ => RunFault::Recording(fault),
+        }
+    }
+}
+
+impl From<ReadFault> for RunFault {
+    ghost use Rattle.rtps_tool.specs.RunFaults as run_faults;
+
+    ghost from_gives = { λ fault run_fault. run_fault ≡ run_faults.run_fault_in fault };
+
+    fn from(fault: ReadFault) -> RunFault {
+        match fault {
+            ReadFault::Input => RunFault::Input,
+            ReadFault::Capture(fault) => RunFault::from(RecFault::from(fault)),
         }
     }
 }

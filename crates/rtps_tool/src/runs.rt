@@ -11,17 +11,18 @@ ghost use Rattle.rtps_tool.specs.Commands as commands;
 ghost use Rattle.rtps_tool.specs.Limits as limits_spec;
 ghost use Rattle.rtps_tool.specs.Runs as runs;
 
-use crate::command::VERSION;
+use crate::command::{GREATEST, VERSION};
 use crate::faults::{BesideFault, RunFault};
 use crate::follow::Follow;
 use crate::streams::{read_input, write_text};
+use bumpalo::Bump;
 use rtps_capture::Captures;
 use rtps_check::{check_json, check_text};
 use rtps_ids::{Memory, SeqNum};
 use rtps_page::{Origin, page_text};
 use rtps_report::{
-    Asked, AskedAudit, Ending, Fragments, FullReport, Inquiry, Recording, Samples, Unwatched,
-    Watch, report_on,
+    Asked, AskedAudit, Ending, Fragments, FullReport, Inquiry, Recording, Unwatched, Watch,
+    report_on,
 };
 use rtps_text::{audit_text, json_text, list_text, sample_text, show_text, why_text};
 use std::alloc::Global;
@@ -45,6 +46,16 @@ impl Limits {
         Limits {
             datagrams: 1_000_000,
             octets: 1 << 30,
+        }
+    }
+
+    /// The limits of a report of files where none are chosen: the greatest that can be.
+    pub fn of_files() -> Limits
+        ensures { result ≡ limits_spec.of_files }
+    {
+        Limits {
+            datagrams: GREATEST,
+            octets: GREATEST,
         }
     }
 }
@@ -204,8 +215,8 @@ fn told<P: Watch + Follow>(
 ) -> Result<(String, Ending), Memory>
     ensures { IfOk result (λ answer. full_report.IsTold (commands.IsFormOf told_as.entry.form told_as.entry.name.now) (asked.asked_value inquiry.entry.asked.now) (reader_side.arrived_value inquiry.entry.arrived) inquiry.entry.recording.now (string_bytes answer.0) answer.1) }
 {
-    let mut samples = Samples::none(alloc);
-    let report = report_on(alloc, inquiry, &mut samples, watch)?;
+    let arena = Bump::new(alloc);
+    let report = report_on(alloc, inquiry, &arena, watch)?;
     watch.writing();
     let text = form_text(alloc, told_as, &report)?;
     Ok((text, report.ending))

@@ -1,20 +1,19 @@
-ghost use Rattle.std.specs.Prelude.{◌≡◌, [], true, false, ◌+◌, ◌≤◌, ◌<◌, ℕ, List, Option, length, take, drop, vec_len, MatchResult, IfErr, IfOk, OnOk};
+ghost use Rattle.std.specs.Prelude.{◌≡◌, [], false, ◌+◌, ◌≤◌, ◌<◌, ℕ, List, Option, length, take, vec_len, MatchResult, IfOk};
 ghost use Rattle.std.specs.Io.KnownBytes.{Appends, Consumes, IsAtEnd};
 ghost use Rattle.rtps_tool.specs.Forms as forms;
 ghost use Rattle.rtps_capture.specs.declared.captures.Captures.{Captures as CapturesValue};
 ghost use Rattle.rtps_tool.specs.RecordingText as recording_text;
 ghost use Rattle.rtps_tool.specs.Runs as runs;
 ghost use Rattle.rtps_tool.specs.Unfinished as unfinished;
-ghost use Rattle.rtps_tool.specs.declared.runs.Limits.{Limits as LimitsValue};
 ghost use Rattle.rtps_tool.specs.declared.faults.RunFault.TheVariants.{Input};
 
 use crate::faults::{RecFault, RunFault};
+use crate::form::capture_blocks::read_capture;
 use crate::form::either::{begins_capture, read_recording_within};
 use crate::form::line_reader::{KEPT_MAX, LineReader};
-use crate::form::whole_capture::read_capture;
 use crate::runs::Limits;
 use rtps_capture::Captures;
-use rtps_report::{Recording, make_room, push_octets};
+use rtps_report::Recording;
 use std::alloc::{AllocError, Global};
 use std::io::{Read, Write};
 
@@ -25,7 +24,7 @@ const PIECE: usize = 1 << 16;
 const HELD: usize = KEPT_MAX + PIECE;
 
 /// How many octets tell the form of an input.
-const FORM: usize = 4;
+pub(crate) const FORM: usize = 4;
 
 /// Reads the recording that is all the input, a text or a capture of those that are read, within limits. The input is read to
 /// its end, or past the most octets that it may have.
@@ -50,10 +49,10 @@ pub fn read_input<R: Read>(
     if !begins_capture(captures, &held[..start]) {
         return read_text_input(alloc, limits, input, &mut held, start);
     }
-    read_capture_input(alloc, limits, captures, input, &held[..start])
+    read_capture(alloc, limits, captures, input, &held[..start])
 }
 
-fn zeros(alloc: Global, size: usize) -> Result<Vec<u8>, AllocError>
+pub(crate) fn zeros(alloc: Global, size: usize) -> Result<Vec<u8>, AllocError>
     ensures { IfOk result (λ zeros. vec_len zeros ≡ size) }
 {
     vec![in alloc; 0u8; size]
@@ -155,7 +154,7 @@ fn read_pieces<R: Read>(
 }
 
 /// Reads on from so many octets, and answers how many there are then.
-fn read_on<R: Read>(
+pub(crate) fn read_on<R: Read>(
     limits: Limits,
     input: &mut R,
     piece: &mut [u8],
@@ -178,81 +177,6 @@ fn read_on<R: Read>(
         total += got as u128;
     }
     Ok(total)
-}
-
-/// Reads the recording that is a capture, of which these octets were read.
-fn read_capture_input<R: Read>(
-    alloc: Global,
-    limits: Limits,
-    captures: Captures,
-    input: &mut R,
-    begun: &[u8],
-) -> Result<Recording, RunFault>
-    requires begun { 4 ≤ length begun.now }
-    requires form { forms.begins_capture captures begun.now ≡ true }
-    ensures { (before : Option (List ℕ)) → Consumes before (R.remaining input.old) begun.now
-        → MatchResult result (runs.ReadsRecording limits captures before (R.remaining input.new)) (runs.FailsReading limits captures before (R.remaining input.new)) }
-{
-    let octets = read_whole(alloc, limits, input, begun)?;
-    Ok(read_capture(alloc, captures, limits.datagrams, octets)?)
-}
-
-/// Reads all the input, of which these octets were read. It has their form.
-fn read_whole<R: Read>(
-    alloc: Global,
-    limits: Limits,
-    input: &mut R,
-    begun: &[u8],
-) -> Result<Vec<u8>, RunFault>
-    requires begun { 4 ≤ length begun.now }
-    ensures form { IfOk result (λ octets. (captures : CapturesValue) → forms.begins_capture captures octets.items ≡ forms.begins_capture captures begun.now) }
-    ensures small { IfOk result (λ octets. length octets.items ≤ limits.octets) }
-    ensures read { (captures : CapturesValue) (before : Option (List ℕ)) → Consumes before (R.remaining input.old) begun.now → MatchResult result
-        (λ octets. Consumes before (R.remaining input.new) octets.items × IsAtEnd (R.remaining input.new))
-        (runs.FailsReading limits captures before (R.remaining input.new)) }
-{
-    let mut octets = Vec::new(alloc);
-    push_octets(&mut octets, begun)?;
-    'pieces: while octets.len() as u64 <= limits.octets {
-        if read_behind(input, &mut octets)? == 0 {
-            return Ok(octets);
-        }
-    }
-    Err(RunFault::Recording(RecFault::TooMany))
-}
-
-/// Reads what comes next behind these octets, and answers how many came.
-fn read_behind<R: Read>(input: &mut R, octets: &mut Vec<u8>) -> Result<usize, RunFault>
-    ensures size { IfOk result (λ got. length octets.new.items ≡ length octets.old.items + got) }
-    ensures front { IfOk result (λ got. take (length octets.old.items) octets.new.items ≡ octets.old.items) }
-    ensures read { OnOk result
-        (Consumes (R.remaining input.old) (R.remaining input.new) (drop (length octets.old.items) octets.new.items)) }
-    ensures end { IfOk result (λ got. got ≡ 0 → IsAtEnd (R.remaining input.new)) }
-    ensures err { IfErr result (λ fault. (limits : LimitsValue) (captures : CapturesValue) (old new : Option (List ℕ)) → runs.FailsReading limits captures old new fault) }
-{
-    let front = octets.len();
-    make_room(octets, PIECE)?;
-    octets.resize(front + PIECE, 0)?;
-    let got = read_over(input, octets.as_mut_slice(), front)?;
-    octets.truncate(front + got);
-    Ok(got)
-}
-
-/// Reads what comes next over the octets from place `from` on, and answers how many came.
-fn read_over<R: Read>(input: &mut R, octets: &mut [u8], from: usize) -> Result<usize, RunFault>
-    requires { from < length octets.old }
-    ensures within { IfOk result (λ got. from + got ≤ length octets.new) }
-    ensures front { take from octets.new ≡ take from octets.old }
-    ensures size { length octets.new ≡ length octets.old }
-    ensures read { IfOk result
-        (λ got. Consumes (R.remaining input.old) (R.remaining input.new) (take got (drop from octets.new))) }
-    ensures end { IfOk result (λ got. got ≡ 0 → IsAtEnd (R.remaining input.new)) }
-    ensures err { IfErr result (λ fault. fault ≡ Input) }
-{
-    match input.read(&mut octets[from..]) {
-        Ok(got) => Ok(got),
-        Err(_) => Err(RunFault::Input),
-    }
 }
 
 /// Writes this text.

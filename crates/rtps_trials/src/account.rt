@@ -2,12 +2,13 @@
 
 use crate::fault::Fault;
 use crate::recording::{datagrams, read};
+use bumpalo::Bump;
 use rtps_audit::{Index, Unwatched, Verdict};
 use rtps_discovery::Pair;
 use rtps_evidence::{
     ExplainedRows, Extent, InSpan, KindNumbers, LostNumbers, Sides, Times, explain_pairs,
 };
-use rtps_fragments::{Fragments, Samples, index_as};
+use rtps_fragments::{Fragments, index_as};
 use rtps_ids::{EntityId, Guid, GuidPrefix, SeqNum};
 use std::alloc::Global;
 use std::fmt::Write;
@@ -18,7 +19,8 @@ pub(crate) fn tell(alloc: Global, name: &str, input: &str, text: &mut String) ->
     let octets = read(alloc, input)?;
     let mut last = String::new(alloc);
     for count in 1..=octets.len() {
-        let line = state_of(alloc, &octets[..count], pair)?;
+        let arena = Bump::new(alloc);
+        let line = state_of(alloc, &octets[..count], &arena, pair)?;
         if line != last {
             writeln!(text, "{count}: {line}")?;
             last = line;
@@ -50,20 +52,30 @@ fn guid_named(alloc: Global, digits: &str) -> Result<Guid, Fault> {
 }
 
 /// What the recording of these datagrams says of a pair, in a line.
-fn state_of(alloc: Global, octets: &[Vec<u8>], pair: Pair) -> Result<String, Fault> {
+fn state_of<'a>(
+    alloc: Global,
+    octets: &'a [Vec<u8>],
+    arena: &'a Bump,
+    pair: Pair,
+) -> Result<String, Fault> {
     let recording = datagrams(alloc, octets)?;
-    let mut samples = Samples::none(alloc);
-    let indexed = index_as(alloc, &recording, Fragments::Read, &mut samples)?;
-    line_of(alloc, &indexed.index, pair)
+    let indexed = index_as(alloc, &recording, Fragments::Read, arena)?;
+    line_of(alloc, &indexed.index, arena, pair)
 }
 
 /// What an index says of a pair, in a line.
-fn line_of(alloc: Global, index: &Index<'_>, pair: Pair) -> Result<String, Fault> {
+fn line_of<'a>(
+    alloc: Global,
+    index: &Index<'a>,
+    arena: &'a Bump,
+    pair: Pair,
+) -> Result<String, Fault> {
     let times = Times::none(alloc);
     let sides = Sides {
         index,
         other: None,
         times: &times,
+        arena,
     };
     let extent = Extent {
         from: SeqNum::first(),

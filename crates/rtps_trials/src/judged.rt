@@ -3,6 +3,7 @@
 
 use crate::fault::Fault;
 use crate::recording::{PAIR, datagrams, read, second};
+use bumpalo::Bump;
 use rtps_audit::{
     Index, MergedRanges, PlainRanges, Unwatched, Verdict, audit_from, judge, judge_by, judge_from,
 };
@@ -15,9 +16,10 @@ use std::fmt::Write;
 /// Judges each recording of a text; an empty line stands between two. Appends how many rows the audit of each has.
 pub(crate) fn judge_each(alloc: Global, input: &str, text: &mut String) -> Result<(), Fault> {
     for recording in input.split("\n\n") {
+        let arena = Bump::new(alloc);
         let octets = read(alloc, recording)?;
         let recording = datagrams(alloc, &octets)?;
-        let rows = count_rows(alloc, &recording)?;
+        let rows = count_rows(alloc, &recording, &arena)?;
         writeln!(text, "{rows}")?;
     }
     Ok(())
@@ -25,12 +27,13 @@ pub(crate) fn judge_each(alloc: Global, input: &str, text: &mut String) -> Resul
 
 /// The rows of the audit of all numbers. Each verdict has to be the same by each judge, also that of `PAIR`, which need not
 /// match.
-fn count_rows(alloc: Global, recording: &[&[u8]]) -> Result<usize, Fault> {
+fn count_rows<'a>(alloc: Global, recording: &[&'a [u8]], arena: &'a Bump) -> Result<usize, Fault> {
     let index = Index::build(alloc, recording)?;
     let ways = Ways {
         alloc,
         recording,
         index: &index,
+        arena,
     };
     ways.hold_pair(PAIR, second(), index.judge_from(PAIR, second())?)?;
     ways.hold_whole()?;
@@ -44,6 +47,7 @@ struct Ways<'r, 'a> {
     alloc: Global,
     recording: &'r [&'a [u8]],
     index: &'r Index<'a>,
+    arena: &'a Bump,
 }
 
 impl Ways<'_, '_> {
@@ -53,7 +57,10 @@ impl Ways<'_, '_> {
         let wanted = self.index.judge(PAIR)?;
         hold(judge(alloc, recording, PAIR)?, wanted)?;
         hold(judge_by::<PlainRanges>(alloc, recording, PAIR)?, wanted)?;
-        hold(Evidence::of(alloc, self.index, PAIR)?.verdict, wanted)?;
+        hold(
+            Evidence::of(alloc, self.index, self.arena, PAIR)?.verdict,
+            wanted,
+        )?;
         hold(self.index.judge_from(PAIR, SeqNum::first())?, wanted)
     }
 
@@ -69,7 +76,7 @@ impl Ways<'_, '_> {
             wanted,
         )?;
         hold(
-            Evidence::of_from(alloc, self.index, pair, from)?.verdict,
+            Evidence::of_from(alloc, self.index, self.arena, pair, from)?.verdict,
             wanted,
         )?;
         hold(self.index.judge_from(pair, from)?, wanted)
@@ -82,7 +89,13 @@ impl Ways<'_, '_> {
             from,
             in_spans: false,
         };
-        let explained = explain_from(self.alloc, self.recording, extent, &mut Unwatched)?;
+        let explained = explain_from(
+            self.alloc,
+            self.arena,
+            self.recording,
+            extent,
+            &mut Unwatched,
+        )?;
         for (row, other) in report.rows.iter().zip(explained.rows.iter()) {
             self.hold_pair(row.pair, from, row.verdict)?;
             hold(other.evidence.verdict, row.verdict)?;

@@ -6,15 +6,14 @@ ghost use Rattle.rtps_text.specs.ReportText as report_text;
 ghost use Rattle.rtps_report.specs.Reported as reported;
 ghost use Rattle.rtps_report.specs.declared.findings.Ending.TheVariants.{Clean, Unclean};
 
+use bumpalo::Bump;
 use json::Writer;
 use rtps_audit::{Counts, Report, Row, Watch};
 use rtps_evidence::{Explained, Explanation};
 use rtps_ids::Memory;
 use rtps_json::{json_line, push_report};
 use rtps_lines::VerdictText;
-use rtps_report::{
-    AskedAudit, Ending, Recording, Samples, audit_asked, explain_asked, is_complete,
-};
+use rtps_report::{AskedAudit, Ending, Recording, audit_asked, explain_asked, is_complete};
 use std::alloc::{AllocError, Global};
 use std::fmt;
 
@@ -54,8 +53,8 @@ pub fn json_text<P: Watch>(
 ) -> Result<(String, Ending), Memory>
     ensures { IfOk result (λ audited. report_text.IsJsonTextAs asked recording.now (string_bytes audited.0) audited.1) }
 {
-    let mut samples = Samples::none(alloc);
-    let explained = explain_asked(alloc, recording, asked, &mut samples, watch)?;
+    let arena = Bump::new(alloc);
+    let explained = explain_asked(alloc, recording, asked, &arena, watch)?;
     let text = json_of(alloc, &explained, recording)?;
     Ok((text, ending_if(all_complete(&explained.rows))))
 }

@@ -7,9 +7,10 @@ ghost use Rattle.rtps_receiver.specs.Acts as acts;
 ghost use Rattle.rtps_discovery.specs.Notice as notice;
 ghost use Rattle.rtps_text.specs.ListText as list_text_spec;
 
+use bumpalo::Bump;
 use rtps_audit::Placed;
 use rtps_discovery::{Directory, Endpoint, Match};
-use rtps_fragments::{Fragments, Samples, index_as};
+use rtps_fragments::{Fragments, index_as};
 use rtps_ids::{Guid, Memory};
 use rtps_lines::{durability_name, reliability_name, side_name};
 use rtps_parts::NameText;
@@ -27,30 +28,30 @@ pub fn list_text(
 ) -> Result<(String, Ending), Memory>
     ensures { IfOk result (λ listed. list_text_spec.IsListedWith fragments recording.now (string_bytes listed.0) listed.1) }
 {
-    let mut samples = Samples::none(alloc);
+    let arena = Bump::new(alloc);
     let mut directory = Directory::new(alloc);
     let faults = match fragments {
         Fragments::Skipped => note_datagrams(alloc, &mut directory, recording)?,
-        Fragments::Read => note_samples(alloc, &mut directory, recording, &mut samples)?,
+        Fragments::Read => note_samples(alloc, &mut directory, recording, &arena)?,
     };
     let text = directory_text(alloc, &directory, faults)?;
     Ok((text, Ending::Clean))
 }
 
-/// Notes what all datagrams announce, also by samples that come in fragments, which are put into `samples`, and answers how many
+/// Notes what all datagrams announce, also by samples that come in fragments, which are put into the arena, and answers how many
 /// announcements had a fault.
 fn note_samples<'a>(
     alloc: Global,
     directory: &mut Directory<'a>,
     recording: &'a Recording,
-    samples: &'a mut Samples,
+    arena: &'a Bump,
 ) -> Result<u128, Memory>
     requires { directory_spec.IsMapOf [] directory.old }
     ensures map { OnOk result (directory_spec.IsMapOf (list_text_spec.announcing_in Read recording.now.datagrams) directory.new) }
     ensures faults { IfOk result (λ faults. faults ≡ notice.faults_in (list_text_spec.announcing_in Read recording.now.datagrams)) }
 {
     let datagrams = datagrams_of(alloc, recording)?;
-    let indexed = index_as(alloc, &datagrams, Fragments::Read, samples)?;
+    let indexed = index_as(alloc, &datagrams, Fragments::Read, arena)?;
     note_announcements(directory, &indexed.announcements)
 }
 

@@ -62,14 +62,13 @@ fn count_of(found: &ArgMatches, called: &str, usually: u64) -> u64
     }
 }
 
-/// The limits that are given, each the usual one where it is not.
-pub(crate) fn limits_of(found: &ArgMatches) -> Limits
-    ensures { words.AreLimitsGiven (rows_of (found_of found.now)) result }
+/// The limits that are given; one that is not is that of `unchosen`.
+pub(crate) fn limits_of(found: &ArgMatches, unchosen: Limits) -> Limits
+    ensures { words.AreLimitsGiven unchosen (rows_of (found_of found.now)) result }
 {
-    let usual = Limits::usual();
     Limits {
-        datagrams: count_of(found, "DATAGRAMS", usual.datagrams),
-        octets: count_of(found, "OCTETS", usual.octets),
+        datagrams: count_of(found, "DATAGRAMS", unchosen.datagrams),
+        octets: count_of(found, "OCTETS", unchosen.octets),
     }
 }
 

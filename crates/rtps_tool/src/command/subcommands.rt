@@ -29,6 +29,13 @@ const DATAGRAMS_HELP: &str =
 const OCTETS_HELP: &str = "The most octets that FILE may have, 1 to 9223372036854775807; \
     1073741824 if it is not given";
 
+const REPORT_DATAGRAMS_HELP: &str =
+    "The most datagrams that the recording may have, 1 to 9223372036854775807; \
+    if it is not given, any number of a file, and 1000000 of standard input";
+
+const REPORT_OCTETS_HELP: &str = "The most octets that FILE may have, 1 to 9223372036854775807; \
+    if it is not given, any number of a file, and 1073741824 of standard input";
+
 const ARRIVED_HELP: &str =
     "A second recording of the same time, made at the host of readers: its samples reached that host; \
     - is standard input";
@@ -79,6 +86,15 @@ const PAGES: &str = "Writes the report of check as a page to look at in a browse
 
 const SAMPLES: &str = "Writes an example recording, which audit finds complete";
 
+/// What help says of a subcommand that reads a FILE within two limits.
+#[derive(Clone, Copy)]
+struct Help<'a> {
+    about: &'a str,
+    statuses: &'a str,
+    datagrams: &'a str,
+    octets: &'a str,
+}
+
 /// An option of this name that takes a number from 1 to 2^63 - 1, which is called so.
 fn number_option<'a>(alloc: Global, called: &'a str, name: &'a str, help: &'a str) -> Arg<'a>
     ensures rule { rule_of result ≡ words.number_rule called.now name.now }
@@ -113,12 +129,11 @@ fn arrived_option<'a>(alloc: Global) -> Arg<'a>
         .help(ARRIVED_HELP)
 }
 
-/// A subcommand that reads a FILE within two limits, and ends with one of these statuses.
+/// A subcommand that reads a FILE within two limits, of which help says this.
 fn limited_subcommand<'a>(
     alloc: Global,
     name: &'a str,
-    about: &'a str,
-    statuses: &'a str,
+    help: Help<'a>,
 ) -> Result<Command<'a>, AllocError>
     ensures app { IfOk result (λ command. app_of command ≡ words.limited_app name.now) }
     ensures local { IfOk result (λ command. (out-Command command).has_globals ≡ false) }
@@ -127,11 +142,13 @@ fn limited_subcommand<'a>(
         .required(true)
         .action(ArgAction::Set)
         .help(FILE_HELP);
-    let bare = Command::new(alloc, name).about(about).after_help(statuses);
+    let bare = Command::new(alloc, name)
+        .about(help.about)
+        .after_help(help.statuses);
     let one = bare.arg(file)?;
-    let datagrams = number_option(alloc, "DATAGRAMS", "max-datagrams", DATAGRAMS_HELP);
+    let datagrams = number_option(alloc, "DATAGRAMS", "max-datagrams", help.datagrams);
     let two = one.arg(datagrams)?;
-    two.arg(number_option(alloc, "OCTETS", "max-octets", OCTETS_HELP))
+    two.arg(number_option(alloc, "OCTETS", "max-octets", help.octets))
 }
 
 /// A subcommand that reads a FILE, within two limits, and any capture where it is asked to.
@@ -144,7 +161,13 @@ fn reading_subcommand<'a>(
     ensures app { IfOk result (λ command. app_of command ≡ words.reading_app name.now) }
     ensures local { IfOk result (λ command. (out-Command command).has_globals ≡ false) }
 {
-    let limited = limited_subcommand(alloc, name, about, statuses)?;
+    let help = Help {
+        about,
+        statuses,
+        datagrams: DATAGRAMS_HELP,
+        octets: OCTETS_HELP,
+    };
+    let limited = limited_subcommand(alloc, name, help)?;
     limited.arg(flag(alloc, "any", ANY_HELP))
 }
 
@@ -174,7 +197,13 @@ fn report_subcommand<'a>(
     ensures local { IfOk result (λ command. (out-Command command).has_globals ≡ false) }
 {
     let from = number_option(alloc, "N", "from", FROM_HELP);
-    let limited = limited_subcommand(alloc, name, about, statuses)?;
+    let help = Help {
+        about,
+        statuses,
+        datagrams: REPORT_DATAGRAMS_HELP,
+        octets: REPORT_OCTETS_HELP,
+    };
+    let limited = limited_subcommand(alloc, name, help)?;
     let numbered = limited.arg(from)?;
     let chosen = with_rows(alloc, numbered)?;
     let held = with_standard(alloc, chosen)?;

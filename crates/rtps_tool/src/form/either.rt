@@ -3,10 +3,11 @@ ghost use Rattle.rtps_tool.specs.Outcomes as outcomes;
 ghost use Rattle.rtps_tool.specs.Forms as forms_spec;
 ghost use Rattle.rtps_capture.specs.declared.captures.Captures.TheVariants.{Classic};
 
-use crate::faults::RecFault;
+use crate::faults::{RecFault, RunFault};
+use crate::form::capture_blocks::read_capture;
 use crate::form::hex_lines::read_text;
-use crate::form::whole_capture::read_capture;
 use crate::runs::Limits;
+use crate::streams::FORM;
 use rtps_capture::{Captures, capture_order, is_pcapng};
 use rtps_report::Recording;
 use std::alloc::Global;
@@ -40,12 +41,18 @@ pub fn read_recording_within(
     if input.len() as u64 > limits.octets {
         return Err(RecFault::TooMany);
     }
+    if input.len() < FORM {
+        return read_text(alloc, limits.datagrams, input);
+    }
     if !begins_capture(Captures::Classic, input) {
         return read_text(alloc, limits.datagrams, input);
     }
-    let mut octets = Vec::with_capacity(alloc, input.len())?;
-    octets.extend_from_slice(input)?;
-    read_capture(alloc, Captures::Classic, limits.datagrams, octets)
+    let mut rest = &input[FORM..];
+    match read_capture(alloc, limits, Captures::Classic, &mut rest, &input[..FORM]) {
+        Ok(recording) => Ok(recording),
+        Err(RunFault::Recording(fault)) => Err(fault),
+        Err(_) => Err(RecFault::Memory),
+    }
 }
 
 /// Whether an input begins as a capture does, of those that are read: its first four octets tell. What is no capture of these is

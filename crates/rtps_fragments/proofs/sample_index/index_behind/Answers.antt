@@ -11,9 +11,8 @@ use Rattle.rtps_fragments.specs.ReadDatagrams as read_datagrams
 use Rattle.rtps_fragments.specs.RecordedSamples as recorded_samples
 use Rattle.rtps_fragments.specs.declared.fragments.Fragments.{Fragments}
 use Rattle.rtps_fragments.proofs.ReadDatagramLemmas.{next_number, read_more, read_stays}
-use Rattle.rtps_fragments.proofs.ActsAnd.{length-acts}
 use Rattle.rtps_fragments.proofs.IndexSteps.{announced_count, kept_at, taken, taken_more}
-use Rattle.rtps_fragments.proofs.PlainStarts.{each_of, overheard_count, past, told_count, whole_behind}
+use Rattle.rtps_fragments.proofs.PlainStarts.{each_of, overheard_count, past, whole_behind}
 use Rattle.rtps_fragments.proofs.SampleSteps.{octets_of}
 use Rattle.rtps_fragments.proofs.WithoutFragments.{taken_plain}
 use Rattle.rtps_fragments.proofs.sample_index.index_behind.Goals as goal
@@ -32,13 +31,6 @@ pub index-requires : goal.index-requires
 index-requires g c =
     let octets = octets_of c.args.recording.now in
     let n = c.args.start.datagrams in
-    let count = told_count octets n c.args.samples.now (c.requires.start.without refl) c.requires.samples in
-    omega (arith, count, length-drop n octets, length-map c.args.recording.now (λ datagram. datagram.now), c.loop-place-test.true, c.loop-place.auto.place)
-
-pub index-requires-in-loop-place : goal.index-requires-in-loop-place
-index-requires-in-loop-place g c =
-    let octets = octets_of c.args.recording.now in
-    let n = c.args.start.datagrams in
     let count = overheard_count octets n c.args.samples.now (c.requires.start.without refl) c.requires.samples in
     omega (arith, count, length-drop n octets, length-map c.args.recording.now (λ datagram. datagram.now), c.loop-place-test.true, c.loop-place.auto.place)
 
@@ -54,7 +46,7 @@ pub note_datagram-requires-clause-few : goal.note_datagram-requires-clause-few
 note_datagram-requires-clause-few g c =
     let recording = c.args.recording.now in
     let i = c.loop-place.place in
-    let counted = ap (λ (counts : Counts). counts.datagrams) (c.loop-place.invariant.indexed.index.counts 0) ∙ length-acts sample_acts.samples_told [] (fragment_walk.sending_of (octets_of (take i recording)))
+    let counted = ap (λ (counts : Counts). counts.datagrams) (c.loop-place.invariant.indexed.index.counts 0) ∙ length-map (fragment_walk.sending_of (octets_of (take i recording))) (map (λ one. one.act))
     ∙ length-map (octets_of (take i recording)) fragment_walk.piece_acts_of ∙ length-map (take i recording) (λ datagram. datagram.now) ∙ length-take-le i recording (omega (arith, c.loop-place-test.true)) in
     omega (arith, counted, c.loop-place-test.true)
 
@@ -68,11 +60,9 @@ loop-place-preserved g c =
     let lt = c.loop-place-test.true in
     let le = c.loop-place.auto.place in
     let none = c.requires.start.without refl in
-    let told = told_count octets n samples none c.requires.samples in
     let overheard = overheard_count octets n samples none c.requires.samples in
-    let at = past octets n samples none c.requires.samples told_samples.told_behind i le ∙ kept_at samples.told.items _ (i - n) c.index.result.now c.deref.result.now c.requires.samples.told (omega (arith, told, length-drop n octets, length-map recording (λ datagram. datagram.now), lt, le)) c.index.ensures c.deref.ensures.value in
-    let also = past octets n samples none c.requires.samples told_samples.overheard_behind i le ∙ kept_at samples.overheard.items _ (i - n) c.index-in-loop-place.result.now c.deref-in-loop-place.result.now c.requires.samples.overheard (omega (arith, overheard, length-drop n octets, length-map recording (λ datagram. datagram.now), lt, le)) c.index-in-loop-place.ensures c.deref-in-loop-place.ensures.value in
-    let more = taken_more recording i _ lt (map told_samples.told_value c.deref.result.now) (map told_samples.told_value c.deref-in-loop-place.result.now) at also in
+    let at = past octets n samples none c.requires.samples i le ∙ kept_at samples.overheard.items _ (i - n) c.index.result.now c.deref.result.now c.requires.samples.overheard (omega (arith, overheard, length-drop n octets, length-map recording (λ datagram. datagram.now), lt, le)) c.index.ensures c.deref.ensures.value in
+    let more = taken_more recording i _ lt (map told_samples.told_value c.deref.result.now) at in
     record {
       indexed = subst (λ intake. announcements.IsIndexedBy intake c.note_datagram.new.reading.indexed) more
           (c.in_ok-note_datagram.ensures.index (taken recording i) (merging.sents_in (fragment_walk.sending_of octets)) (whole_behind octets n samples none c.requires.samples)

@@ -66,7 +66,7 @@ index_behind-requires-clause-samples g c =
     let recording = c.args.source.recording.now in
     let n = c.in_ok-start.start.datagrams in
     let left : take (length recording - n) (drop n recording) ≡ drop n recording = ap (λ (m : ℕ). take m (drop n recording)) (sym (length-drop n recording)) ∙ take-length (drop n recording) in
-    subst (λ (octets : List (List ℕ)). recorded_samples.AreSamplesOf octets c.in_ok-samples.field-0)
+    subst (λ (octets : List (List ℕ)). recorded_samples.AreSamplesOf octets c.in_ok-samples.samples)
     (ap octets_of left ∙ sym (drop-map (λ (datagram : Bor (List ℕ)). datagram.now) n recording)) c.in_ok-samples.ensures
 
 pub index_behind-requires-clause-heard : goal.index_behind-requires-clause-heard

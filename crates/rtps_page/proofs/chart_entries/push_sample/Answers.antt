@@ -10,5 +10,5 @@ returns-clause-tokens c =
     let positive = c.get.ensures.positive in
     let small = c.get.type_inv in
     on_ok_weaker c.push_entry.result
-    (λ last. last ∙ ap (λ n. start ++ json_tokens (entry_json c.args.head.place c.args.head.named.now (codes "sample") (n ∷ []))) {y = pos c.args.piece.now.number} (omega (arith, ints)))
+    (λ last. last ∙ ap (λ n. start ++ json_tokens (entry_json c.args.head.place c.args.head.named.now (codes "sample") (n ∷ []))) {y = pos c.args.number} (omega (arith, ints)))
     c.push_entry.ensures.tokens

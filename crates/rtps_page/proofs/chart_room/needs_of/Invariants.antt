@@ -7,7 +7,7 @@ use Rattle.rtps_page.proofs.Written.{entries_by, placed_in}
 use Rattle.rtps_page.proofs.chart_room.needs_of.Given as goal
 
 abbrev pub invariant-loop-row : goal.invariant-loop-row
-invariant-loop-row l = (intake : intake.Intake) → index.IsIndexBy intake l.index → record {
-  needs : l.needs.items ≡ map (λ row. chart_room.need_of l.fn.tail (placed_in intake.acts) (explanation.explanation_value row)) (take l.row-index l.rows);
-  known : IfSome l.before (λ known. known.entries ≡ length (entries_by known.writer (placed_in intake.acts)));
+invariant-loop-row l = (intake : intake.Intake) → index.IsIndexBy intake l.fn.said.index.now → record {
+  needs : l.needs.items ≡ map (λ row. chart_room.need_of l.fn.tail (placed_in intake.acts) l.fn.said.pairs.now (explanation.explanation_value row)) (take l.row-index l.rows);
+  known : IfSome l.before (λ known. known.entries ≡ length (entries_by l.fn.said.pairs.now known.writer (placed_in intake.acts)));
 }

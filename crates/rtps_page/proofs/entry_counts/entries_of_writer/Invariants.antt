@@ -1,10 +1,12 @@
-use Rattle.std.proofs.Common.{◌≡◌, ◌≤◌, ◌*◌, length, map, take}
+use Rattle.std.proofs.Common.{◌≡◌, ◌≤◌, ◌*◌, [], List, length, map, take}
+use Rattle.rtps_ids.specs.declared.identity.Guid.{Guid}
 use Rattle.rtps_audit.specs.Placed as placed
-use Rattle.rtps_page.proofs.Written.{entries_by}
+use Rattle.rtps_page.specs.ChartEntries as chart_entries
 use Rattle.rtps_page.proofs.entry_counts.entries_of_writer.Given as goal
 
-abbrev pub invariant-loop-placed : goal.invariant-loop-placed
-invariant-loop-placed l = record {
-  value : l.count ≡ length (entries_by l.fn.writer (map placed.placed_value (take l.placed-index l.acts)));
-  few : l.count ≤ l.placed-index * 257;
+abbrev pub invariant-loop-at : goal.invariant-loop-at
+invariant-loop-at l = record {
+  value : (readers : List Guid) → chart_entries.AreTellings readers (map placed.placed_value l.fn.acts) l.fn.tellings
+      → l.count ≡ length (chart_entries.entries_behind readers [] (map placed.placed_value (take l.at l.fn.acts)));
+  few : l.count ≤ l.at * 18446744073709551873;
 }

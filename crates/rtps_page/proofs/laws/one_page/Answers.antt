@@ -16,7 +16,7 @@ use Rattle.rtps_page.proofs.laws.one_page.Goals as goal
 same_json : (origin : origin.OriginValue) (asked : asked.AskedValue) (recording : recording.RecordingValue) (one other : full_report.ReportValue) (directory map : directory_spec.DirectoryValue) → laws.AreSame one other → directory ≡ map
     → page_spec.page_json origin asked recording one directory ≡ page_spec.page_json origin asked recording other map
 same_json origin asked recording one other directory map same maps =
-    ap₂ (λ (members : List json_text.Member) (rows : List explanation.ExplanationValue). json_text.object_of (members ++ page_spec.own_members origin asked recording rows directory (chart_room.charted_pairs asked.tail (page_spec.acts_judged recording) rows)))
+    ap₂ (λ (members : List json_text.Member) (rows : List explanation.ExplanationValue). json_text.object_of (members ++ page_spec.own_members origin asked recording rows directory (chart_room.charted_pairs asked.tail (page_spec.acts_sent recording) rows)))
     (same_members asked recording one other same) same.rows
     ∙ ap (λ (d : directory_spec.DirectoryValue). json_text.object_of (check_members.check_members asked recording other ++ page_spec.own_members origin asked recording (full_report.rows_of other) d (page_spec.pairs_with_charts asked recording other))) maps
 

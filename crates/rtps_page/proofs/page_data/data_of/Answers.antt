@@ -11,8 +11,8 @@ returns c =
     let shown = c.args.shown.now in
     let intake = intake_in shown in
     let acts = placed_in intake.acts in
-    let pairs = c.deref-2.ensures.value ∙ c.in_ok-pairs.ensures intake c.requires ∙ ap (λ rows. chart_room.charted_pairs shown.report.now.asked.now.tail acts (map explanation.explanation_value rows)) c.deref.ensures.value in
-    let members = members_in shown c.deref-2.result.now in
+    let pairs = c.deref-5.ensures.value ∙ c.in_ok-pairs.ensures intake c.requires ∙ ap (λ rows. chart_room.charted_pairs shown.report.now.asked.now.tail acts (map explanation.explanation_value rows)) c.deref-3.ensures.value in
+    let members = members_in shown c.deref-5.result.now in
     let written : c.end_object.new.self.tokens ≡ json_tokens (json_in shown) =
     three_parts [] (begin_object ∷ []) (tokens_of members) (end_object ∷ []) (c.in_ok-begin_object.ensures.ok ∙ ap (λ (start : List Token). start ++ begin_object ∷ []) c.new-writer.ensures.tokens)
     c.in_ok-push_members.ensures.tokens c.in_ok-end_object.ensures.ok

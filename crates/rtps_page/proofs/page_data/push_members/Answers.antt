@@ -1,9 +1,10 @@
 use Rattle.std.proofs.Common.{◌++◌, ◌∙◌, List, ap, map, sym}
 use Rattle.std.proofs.lemmas.List.Concat.{flat_map-append}
-use Rattle.rtps_evidence.specs.Explanation.{explanation_value}
-use Rattle.rtps_json.specs.JsonText.{Member}
-use Rattle.rtps_page.proofs.Written.{acts_judged, asked_value, chart_members, check_members, directory_member, intake_in, joined_member, options_member, origin_value, own_members, recording_member, report_value, six_parts, Token, tokens_of, tokens_of_member}
-use Rattle.rtps_report.specs.FullReport.{rows_of}
+use Rattle.rtps_evidence.specs.Explanation as explanation
+use Rattle.rtps_json.specs.JsonText as json_text
+use Rattle.rtps_page.specs.ChartRoom as chart_room
+use Rattle.rtps_page.proofs.Written.{acts_sent, asked_value, chart_members, check_members, directory_member, intake_in, joined_member, on_ok_weaker, options_member, origin_value, own_members, recording_member, report_value, six_parts, Token, tokens_of, tokens_of_member}
+use Rattle.rtps_report.specs.FullReport as full_report
 use Rattle.rtps_page.proofs.page_data.push_members.Goals as goal
 
 pub returns-clause-tokens : goal.returns-clause-tokens
@@ -14,20 +15,25 @@ returns-clause-tokens c =
     let start : List Token = c.args.writer.now.tokens in
     let told = check_members asked recording (report_value report) in
     let origin = origin_value c.args.shown.now.origin in
-    let rows = rows_of (report_value report) in
+    let rows = full_report.rows_of (report_value report) in
     let made = recording_member origin recording.times in
     let joining = joined_member recording.times rows in
     let announced = directory_member c.args.shown.now.directory.now in
-    let charts = chart_members recording.times (acts_judged recording) c.args.pairs.now in
+    let all = chart_room.pairs_of rows in
+    let charts = chart_members recording.times (acts_sent recording) all c.args.pairs.now in
+    on_ok_weaker c.push_charts.result
+    (λ last.
     six_parts start (tokens_of told) (tokens_of_member made) (tokens_of_member (options_member asked)) (tokens_of_member announced) (tokens_of_member joining) (tokens_of charts)
     c.in_ok-push_check_members.ensures.tokens
-    (c.in_ok-push_member.ensures.tokens ∙ ap (λ (member : Member). c.push_check_members.new.writer.tokens ++ tokens_of_member member)
+    (c.in_ok-push_member.ensures.tokens ∙ ap (λ (member : json_text.Member). c.push_check_members.new.writer.tokens ++ tokens_of_member member)
     (c.in_ok-recording.ensures ∙ ap (λ times. recording_member origin times) c.times.ensures))
-    (c.in_ok-push_member-2.ensures.tokens ∙ ap (λ (member : Member). c.push_member.new.writer.tokens ++ tokens_of_member member) c.in_ok-options.ensures)
+    (c.in_ok-push_member-2.ensures.tokens ∙ ap (λ (member : json_text.Member). c.push_member.new.writer.tokens ++ tokens_of_member member) c.in_ok-options.ensures)
     c.in_ok-push_directory.ensures.tokens
     (c.in_ok-push_all_joined.ensures.tokens
-    ∙ ap (λ times. c.push_directory.new.writer.tokens ++ tokens_of_member (joined_member times (map explanation_value c.deref.result.now))) c.times.ensures
-    ∙ ap (λ rows. c.push_directory.new.writer.tokens ++ tokens_of_member (joined_member recording.times (map explanation_value rows))) c.deref.ensures.value)
-    (c.in_ok-push_charts.ensures.tokens (intake_in c.args.shown.now) c.requires
-    ∙ ap (λ times. c.push_all_joined.new.writer.tokens ++ tokens_of (chart_members times (acts_judged recording) c.args.pairs.now)) c.times.ensures)
-    ∙ ap (λ l. start ++ l) (sym (flat_map-append tokens_of_member told (own_members origin asked recording rows c.args.shown.now.directory.now c.args.pairs.now)))
+    ∙ ap (λ times. c.push_directory.new.writer.tokens ++ tokens_of_member (joined_member times (map explanation.explanation_value c.deref.result.now))) c.times.ensures
+    ∙ ap (λ rows. c.push_directory.new.writer.tokens ++ tokens_of_member (joined_member recording.times (map explanation.explanation_value rows))) c.deref.ensures.value)
+    (last
+    ∙ ap (λ times. c.push_all_joined.new.writer.tokens ++ tokens_of (chart_members times (acts_sent recording) c.args.all.now c.args.pairs.now)) c.times.ensures
+    ∙ ap (λ pairs. c.push_all_joined.new.writer.tokens ++ tokens_of (chart_members recording.times (acts_sent recording) pairs c.args.pairs.now)) c.requires.pairs)
+    ∙ ap (λ l. start ++ l) (sym (flat_map-append tokens_of_member told (own_members origin asked recording rows c.args.shown.now.directory.now c.args.pairs.now))))
+    (c.push_charts.ensures.tokens (intake_in c.args.shown.now) c.requires.index)

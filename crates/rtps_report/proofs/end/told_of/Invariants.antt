@@ -9,5 +9,5 @@ use Rattle.rtps_report.proofs.end.told_of.Given as goal
 
 abbrev pub invariant-loop-endpoint : goal.invariant-loop-endpoint
 invariant-loop-endpoint l =
-    (intake : intake.Intake) (announcing : List values.ActValue) → index.IsIndexBy intake l.index → introducing.IsIntroducedBy announcing l.introductions
+    (intake : intake.Intake) (announcing : List values.ActValue) → index.IsIndexBy intake l.read.index.now → introducing.IsIntroducedBy announcing l.introductions
     → telling.IsToldBy announcing (told_to intake (take l.endpoint-index l.endpoint-items)) l.told

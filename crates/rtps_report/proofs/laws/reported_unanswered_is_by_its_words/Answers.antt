@@ -5,5 +5,5 @@ use Rattle.rtps_report.proofs.laws.reported_unanswered_is_by_its_words.Goals as 
 
 pub returns : goal.returns
 returns c = λ fragments until recording times since pair n.
-    c.unanswered_is_by_its_words.ensures.words times since pair (placed.placed_in (laws.first_acts fragments until recording)) n
-    (acts_in_order c.unanswered_is_by_its_words.ensures.order fragments until recording)
+    c.unanswered_is_by_its_words.ensures.words times since pair (placed.placed_in (laws.first_acts fragments pair.reader until recording)) n
+    (acts_in_order c.unanswered_is_by_its_words.ensures.order fragments pair.reader until recording)

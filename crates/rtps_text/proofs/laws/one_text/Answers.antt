@@ -40,7 +40,7 @@ returns-clause-listed c = λ choice recording one other ending last ((directory,
 
 pub returns-clause-audited : goal.returns-clause-audited
 returns-clause-audited c = λ asked recording one other ending last is also.
-    let same = c.one_report.ensures asked.from (recorded_samples.intake_as asked.fragments recording.datagrams) is.report also.report is.reports also.reports in (
+    let same = c.one_report_heard.ensures.report asked.from (recorded_samples.intake_as asked.fragments recording.datagrams) is.report also.report is.reports also.reports in (
       is.is_text ∙ ap₂ (λ (rows : List Row) (counts : Counts). report_text.report_text rows counts recording.ignored) same.0 same.1 ∙ sym also.is_text,
       is.ends ∙ ap report_text.ending_of same.0 ∙ sym also.ends,
     )

@@ -1,19 +1,23 @@
-use Rattle.std.proofs.Common.{arith}
-use Rattle.rtps_coverage.proofs.RangeMapLemmas.{end_outside, is_in, some_has}
+use Rattle.std.proofs.Common.{subst, arith}
+use Rattle.rtps_coverage.specs.Ranges as ranges
+use Rattle.rtps_coverage.specs.Leaves as leaves_spec
+use Rattle.rtps_coverage.specs.MergedRanges as merged_ranges
+use Rattle.rtps_coverage.proofs.LeavesLemmas.{end_outside, in_one, one_bounded}
 use Rattle.rtps_coverage.proofs.merged_ranges.MergedRanges.end_of.Goals as goal
 
 pub returns : goal.returns
 returns c =
-    let set = c.args.self.now in
-    let stretch = c.in_ok-range_with.field-0 in
-    let with = c.in_ok-range_with.ensures in
-    let from = with.from in
-    let to = with.to in (
+    let all = merged_ranges.ranges_of c.args.self.now in
+    let apart = c.args.self.now.kept.apart in
+    let range = c.in_ok-range_with.field-0 in
+    let one = subst (λ l. ranges.IsRangeWith (leaves_spec.ranges_in l) c.args.n range) c.deref.ensures.value c.in_ok-range_with.ensures in
+    let from = one.from in
+    let to = one.to in (
       to,
       record {
         onward = omega arith;
-        in_range = set.apart.bounded with.key stretch with.kept_here;
-        outside = end_outside set.kept with.key stretch set.apart with.kept_here;
-        between = λ m a b. some_has m with.key stretch set.kept.entries with.kept_here (is_in m stretch (omega arith) b);
+        in_range = one_bounded all c.args.n range apart one;
+        outside = end_outside all c.args.n range apart one;
+        between = λ m a b. in_one all c.args.n m range one (omega arith) b;
       },
     )

@@ -1,14 +1,14 @@
 use Rattle.std.proofs.lemmas.Bool.Decides.{nat_tests}
-use Rattle.std.proofs.Common.{ℕ, ◌∙◌, ap, arith, sym}
+use Rattle.std.proofs.Common.{ℕ, List, ◌∙◌, ap, arith, sym}
 use Rattle.std.specs.Prelude.{IfOk, Some, Result, slice_get}
-use Rattle.std.specs.Global.{Vec}
+use Rattle.std.specs.Borrow.{Bor}
 use Rattle.rtps_ids.specs.declared.memory.Memory.{Memory}
 use Rattle.rtps_wire.specs.DataFrag as data_frag
 use Rattle.rtps_fragments.specs.Samples as samples
 use Rattle.rtps_fragments.proofs.KeptLemmas.{parts_there, sample_at_first, sample_at_second}
 use Rattle.rtps_fragments.proofs.heard.Heard.sample.Goals as goal
 
-weaker : (result : Result (Vec ℕ) Memory) (P Q : Vec ℕ → Type 0) → ((v : Vec ℕ) → P v → Q v) → IfOk result P → IfOk result Q
+weaker : (result : Result (Bor (List ℕ)) Memory) (P Q : Bor (List ℕ) → Type 0) → ((v : Bor (List ℕ)) → P v → Q v) → IfOk result P → IfOk result Q
 weaker result P Q h h2 = grind (arith, nat_tests)
 
 pub returns-then-place-eq0 : goal.returns-then-place-eq0

@@ -20,7 +20,7 @@ loop-place-preserved c =
     let behind : c.split_at.result.1.now ≡ drop fragment rest = c.split_at.ensures.back ∙ ap (λ n. drop n rest) size ∙ drop_min fragment rest in
     let more : suc place ≡ place + 1 = omega arith in (
       λ came is.
-          piece_step c.last_fragment-last.result c.args.fragments.now.first count fragment place _ parts rest c.split_at.result.0.now came c.take.new.self c.loop-place.invariant.1 lt (omega (arith, c.from.ensures, c.from-in-loop-place.ensures)) octets
+          piece_step c.last_fragment-last.result c.args.fragments.now.first count fragment place _ parts rest c.split_at.result.0.now came c.take.new.self c.loop-place.invariant.1 lt (omega (arith, c.from.ensures)) octets
           (c.in_ok-take.ensures (came ++ heard.came_from c.args.fragments.now.first (take place parts)) (c.loop-place.invariant.0 came is)),
       ap (λ n. drop n parts) (sym more) ∙ parts_behind fragment count place parts rest c.loop-place.invariant.1 lt ∙ ap (λ n. data_frag.parts_in fragment (count - n) (drop fragment rest)) more ∙ ap (data_frag.parts_in fragment (count - (place + 1))) (sym behind),
     )

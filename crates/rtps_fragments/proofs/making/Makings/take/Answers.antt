@@ -1,33 +1,28 @@
-use Rattle.std.proofs.Common.{◌≡◌, ◌∙◌, true, cond, ap, refl, subst, sym}
-use Rattle.std.specs.BTreeSet.{contains}
-use Rattle.rtps_fragments.specs.Making as making
+use Rattle.std.proofs.lemmas.Bool.Decides.{nat_tests}
+use Rattle.std.proofs.Common.{◌≡◌, [], ◌++◌, ◌∙◌, ℕ, List, ap, arith, map, subst, sym}
+use Rattle.std.specs.Option.{option_copied_mut}
+use Rattle.std.specs.BTreeMap.{get}
+use Rattle.rtps_wire.specs.DataFrag as data_frag
+use Rattle.rtps_fragments.specs.Samples as samples
 use Rattle.rtps_fragments.specs.ToldSamples as told_samples
-use Rattle.rtps_fragments.specs.Whole as whole
-use Rattle.rtps_fragments.specs.declared.making.Makings.{Makings}
-use Rattle.rtps_fragments.specs.declared.whole.SampleNumber.{SampleNumber}
-use Rattle.rtps_fragments.proofs.MakingLemmas.{behind_is, makings_not, makings_whole}
+use Rattle.rtps_fragments.proofs.MakingLemmas.{begun, nothing_came}
 use Rattle.rtps_fragments.proofs.making.Makings.take.Goals as goal
 
-pub returns-in_ok-insert : goal.returns-in_ok-insert
-returns-in_ok-insert c = λ before are.
-    let sent = told_samples.sent_value c.args.sent.now in
-    let old = c.args.self.now in
-    let heard = c.in_ok-hear.ensures in
-    let (here, told) = heard.here (told_samples.offers sent.key before) (are.each sent.key) in
-    let new : Makings = record { kept = c.hear.new.kept; whole = c.insert.new.self; alloc = old.alloc } in
-    let added : (number : SampleNumber) → contains whole.number_cmp c.insert.new.self number ≡ cond (whole.is_number (whole.key_number sent.key) number) true (contains whole.number_cmp old.whole number) =
-    λ number. c.in_ok-insert.ensures.updates.0 number ∙ ap (λ n. cond (whole.is_number n number) true (contains whole.number_cmp old.whole number)) c.key_number.ensures in (
-      makings_whole before sent old new are here heard.others (sym c.if-branch.true ∙ heard.whole (told_samples.offers sent.key before) (are.each sent.key)) added,
-      subst (making.AddsTold c.args.told.now c.hear.new.told (told_samples.told_by_offers (told_samples.offers sent.key before) sent)) (behind_is before sent) told,
-    )
+pub returns-in-Some-clause-here : goal.returns-in-Some-clause-here
+returns-in-Some-clause-here c = grind (arith, nat_tests)
 
-pub returns-else-branch : goal.returns-else-branch
-returns-else-branch c = λ before are.
+pub returns-in-Some-clause-whole : goal.returns-in-Some-clause-whole
+returns-in-Some-clause-whole c = grind (arith, nat_tests)
+
+pub returns-clause-here : goal.returns-clause-here
+returns-clause-here c = λ came was.
     let sent = told_samples.sent_value c.args.sent.now in
-    let old = c.args.self.now in
-    let heard = c.in_ok-hear.ensures in
-    let (here, told) = heard.here (told_samples.offers sent.key before) (are.each sent.key) in
-    let new : Makings = record { kept = c.hear.new.kept; whole = old.whole; alloc = old.alloc } in (
-      makings_not before sent old new are here heard.others (sym c.if-branch.false ∙ heard.whole (told_samples.offers sent.key before) (are.each sent.key)) refl,
-      subst (making.AddsTold c.args.told.now c.hear.new.told (told_samples.told_by_offers (told_samples.offers sent.key before) sent)) (behind_is before sent) told,
-    )
+    begun sent.key c.args.self.now.kept c.insert.new.self c.new-heard.result _ came sent.came (sym c.get_mut.ensures.value ∙ ap option_copied_mut c.in_default.is) c.in_ok-insert.ensures.updates.1
+    c.in_ok-whole.ensures.came (c.new-heard.ensures (data_frag.last_fragment (told_samples.shape_of sent.key))) was
+
+pub returns-clause-whole : goal.returns-clause-whole
+returns-clause-whole c = λ came was.
+    let sent = told_samples.sent_value c.args.sent.now in
+    let last = data_frag.last_fragment (told_samples.shape_of sent.key) in
+    let none = sym c.get_mut.ensures.value ∙ ap option_copied_mut c.in_default.is in
+    subst (λ cs. c.in_ok-whole.whole ≡ samples.has_sample last (cs ++ sent.came)) (sym (nothing_came sent.key (get told_samples.sample_cmp c.args.self.now.kept sent.key) came none was)) (c.in_ok-whole.ensures.whole [] (c.new-heard.ensures last))

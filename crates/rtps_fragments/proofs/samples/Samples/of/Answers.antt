@@ -1,4 +1,5 @@
 use Rattle.std.proofs.Common.{[], ◌∷◌, ◌++◌, ◌∙◌, ap, map, subst, sym, take}
+use Rattle.std.proofs.lemmas.List.{map-append}
 use Rattle.rtps_fragments.specs.Making as making
 use Rattle.rtps_fragments.specs.Merging as merging
 use Rattle.rtps_fragments.specs.RecordedSamples as recorded_samples
@@ -15,13 +16,11 @@ loop-datagram-preserved c =
     let so_far = fragment_walk.sending_of (octets_of (take i recording)) in
     let next = sending_next recording i _ c.loop-datagram-test.true in
     let sents = ap (map told_samples.sent_value) c.deref.ensures.value ∙ c.in_ok-read.ensures.acts.sents in
-    let (kept, heard, overheard) = c.in_ok-take_all.ensures (merging.sents_in so_far) old.kept in
+    let (kept, overheard) = c.in_ok-take_all.ensures (merging.sents_in so_far) old.kept in
     record {
-      kept = subst (λ ss. making.AreMakings ss c.take_all.new.self) (ap (λ ss. merging.sents_in so_far ++ ss) sents ∙ sym (ap merging.sents_in next ∙ sents_next so_far _)) kept;
-      told =
-          c.in_ok-add.ensures.told ∙ ap (λ ts. ts ++ map told_samples.told_value c.in_ok-take_all.field-0.heard.items ∷ []) old.told
-          ∙ ap (λ ts. recorded_samples.by_datagram told_samples.told_behind [] so_far ++ ts ∷ []) (heard ∙ ap (told_samples.told_in_turn (merging.sents_in so_far)) sents) ∙ sym (ap (recorded_samples.by_datagram told_samples.told_behind []) next ∙ next_datagram told_samples.told_behind [] so_far _);
+      kept = subst (λ ss. making.IsOverhearing ss c.take_all.new.self) (ap (λ ss. merging.sents_in so_far ++ ss) sents ∙ sym (ap merging.sents_in next ∙ sents_next so_far _)) kept;
       overheard =
-          c.in_ok-add.ensures.overheard ∙ ap (λ ts. ts ++ map told_samples.told_value c.in_ok-take_all.field-0.overheard.items ∷ []) old.overheard
-          ∙ ap (λ ts. recorded_samples.by_datagram told_samples.overheard_behind [] so_far ++ ts ∷ []) (overheard ∙ ap (told_samples.overheard_in_turn (merging.sents_in so_far)) sents) ∙ sym (ap (recorded_samples.by_datagram told_samples.overheard_behind []) next ∙ next_datagram told_samples.overheard_behind [] so_far _);
+          ap (map (λ told. map told_samples.told_value told.items)) c.in_ok-push.ensures.items ∙ map-append (λ told. map told_samples.told_value told.items) c.loop-datagram.overheard.items _
+          ∙ ap (λ ts. ts ++ map told_samples.told_value c.in_ok-take_all.field-0.items ∷ []) old.overheard
+          ∙ ap (λ ts. recorded_samples.overheard_from [] so_far ++ ts ∷ []) (overheard ∙ ap (told_samples.overheard_in_turn (merging.sents_in so_far)) sents) ∙ sym (ap (recorded_samples.overheard_from []) next ∙ next_datagram [] so_far _);
     }

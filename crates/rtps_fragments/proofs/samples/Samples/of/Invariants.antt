@@ -8,9 +8,8 @@ use Rattle.rtps_fragments.proofs.samples.Samples.of.Given as goal
 
 -- what the datagrams so far send is kept, and what they tell
 pub record IsSoFar (l : goal.Live-loop-datagram) : Type 0 where
-  pub kept : making.AreMakings (merging.sents_in (fragment_walk.sending_of (map (λ datagram. datagram.now) (take l.datagram-index l.recording)))) l.makings
-  pub told : map (λ told. map told_samples.told_value told.items) l.samples.told.items ≡ recorded_samples.by_datagram told_samples.told_behind [] (fragment_walk.sending_of (map (λ datagram. datagram.now) (take l.datagram-index l.recording)))
-  pub overheard : map (λ told. map told_samples.told_value told.items) l.samples.overheard.items ≡ recorded_samples.by_datagram told_samples.overheard_behind [] (fragment_walk.sending_of (map (λ datagram. datagram.now) (take l.datagram-index l.recording)))
+  pub kept : making.IsOverhearing (merging.sents_in (fragment_walk.sending_of (map (λ datagram. datagram.now) (take l.datagram-index l.recording)))) l.overhearing
+  pub overheard : map (λ told. map told_samples.told_value told.items) l.overheard.items ≡ recorded_samples.overheard_from [] (fragment_walk.sending_of (map (λ datagram. datagram.now) (take l.datagram-index l.recording)))
 
 abbrev pub invariant-loop-datagram : goal.invariant-loop-datagram
 invariant-loop-datagram l = IsSoFar l

@@ -1,9 +1,0 @@
-use Rattle.std.proofs.lemmas.Bool.Decides.{nat_tests}
-use Rattle.std.proofs.Common.{arith}
-use Rattle.rtps_fragments.proofs.making.hear.Goals as goal
-
-pub returns-clause-here : goal.returns-clause-here
-returns-clause-here c = grind (arith, nat_tests)
-
-pub returns-clause-whole : goal.returns-clause-whole
-returns-clause-whole c = grind (arith, nat_tests)

@@ -1,0 +1,7 @@
+use Rattle.std.proofs.Common.{◌≡◌, map, take}
+use Rattle.rtps_audit.specs.Placed as placed
+use Rattle.rtps_fragments.specs.Hearing as hearing
+use Rattle.rtps_fragments.proofs.overheard.overheard_of.Given as goal
+
+abbrev pub invariant-loop-placed : goal.invariant-loop-placed
+invariant-loop-placed l = map placed.placed_value l.all.items ≡ map hearing.for_everyone (map placed.placed_value (take l.placed-index l.acts))

@@ -1,0 +1,19 @@
+use Rattle.std.proofs.Common.{◌≡◌, ◌++◌, ◌∷◌, [], List, ℕ, length, ap, arith}
+use Rattle.rtps_report.specs.declared.datagram_span.DatagramSpan.{DatagramSpan}
+use Rattle.rtps_tool.specs.Collected as collected_spec
+use Rattle.rtps_tool.proofs.PiecesLemmas.{pieces-push}
+use Rattle.rtps_tool.proofs.form.collected.Collected.push.Goals as goal
+
+pub returns : goal.returns
+returns c =
+    let octets = c.self.inside.octets.items in
+    let spans = c.self.inside.spans.items in
+    let more = c.args.octets.now in
+    let span : DatagramSpan = c.in-Some.span in
+    let times = c.self.inside.times.items ++ c.args.time ∷ [] in
+    let frames = c.self.inside.frames.items ++ c.args.frame ∷ [] in
+    let octets_now : c.push_octets.new.octets.items ≡ octets ++ more = c.in_ok-push_octets.ensures.ok in
+    let spans_now : c.push_reserved.new.self.items ≡ spans ++ span ∷ [] = cc (c.push_reserved.ensures.items, c.in_ok-make_room.ensures.items) in
+    rw (← c.self.view_is, octets_now, spans_now, c.in_ok-push.ensures.items, c.in_ok-push-2.ensures.items)
+    (ap (λ (all : List (List ℕ)). let value : collected_spec.CollectedValue = record { datagrams = all; times = times; frames = frames } in value)
+    (pieces-push octets more spans span c.self.invariant (omega (arith, c.in-Some.ensures.1, c.len-from.ensures)) (omega (arith, c.in-Some.ensures.2, c.len-from.ensures))))
