@@ -219,10 +219,10 @@ payload_announced writer reader placed n x positive heard =
     omega arith
 
 -- where the accounts stand for all that was said, all is known that the verdict on each pair is by
-pub all_known : {C : Type 0} (covered : C → ℕ → Bool) (from : ℕ) (writer : Guid) (recording : List (List receiver_values.ActValue)) (pairs : List Pair) (acts : List Placed) (asks : List Ask) (accounts : Accounts C) (conflicts : PayloadConflicts)
-    → payload_conflict.AreConflictsOf (payload_conflict.is_in_question accounts.from (merged_ranges.covered_of accounts.again)) conflicts.payloads.items (map placed_spec.placed_value acts) → account_spec.AreSaid writer recording pairs acts asks → account_spec.AllStand covered from writer pairs (map placed_spec.placed_value acts) asks accounts
+pub all_known : {C : Type 0} (covered : C → ℕ → Bool) (from : ℕ) (writer : Guid) (recording : List (List receiver_values.ActValue)) (pairs : List Pair) (placed : List placed_spec.PlacedValue) (asks : List Ask) (accounts : Accounts C) (conflicts : PayloadConflicts)
+    → payload_conflict.AreConflictsOf (payload_conflict.is_in_question accounts.from (merged_ranges.covered_of accounts.again)) conflicts.payloads.items placed → account_spec.AreSaid writer recording pairs placed asks → account_spec.AllStand covered from writer pairs placed asks accounts
     → All (λ (account : Account C). account_spec.IsAllKnown from recording account.pair conflicts accounts.last account.claims) accounts.accounts.items
-all_known {C} covered from writer recording pairs acts asks accounts conflicts are_conflicts said known k d lt = record {
+all_known {C} covered from writer recording pairs placed asks accounts conflicts are_conflicts said known k d lt = record {
   wanted = payload_conflict.is_in_question accounts.from (merged_ranges.covered_of accounts.again);
   asked = λ n is. asked_in_question from (merged_ranges.covered_of accounts.again) n (subst (λ m. payload_conflict.is_in_question m (merged_ranges.covered_of accounts.again) n ≡ true) stand.from_is is);
   two = λ n two.
@@ -240,9 +240,6 @@ all_known {C} covered from writer recording pairs acts asks accounts conflicts a
   where
     account : Account C
     account = get_or accounts.accounts.items k d
-
-    placed : List placed_spec.PlacedValue
-    placed = map placed_spec.placed_value acts
 
     within : k < length pairs
     within = let long = length-map accounts.accounts.items (λ (a : Account C). a.pair) in let all = ap length known.pairs_are in omega (arith, long, all)

@@ -113,9 +113,9 @@ pub record IsSince (writer : Guid) (datagram : ℕ) (at : Placed) : Type 0 where
   pub since : datagram ≤ at.datagram
 
 -- these acts and asks are what the writer and the readers of its pairs say in the recording
-pub record AreSaid (writer : Guid) (recording : List (List receiver_values.ActValue)) (pairs : List Pair) (acts : List Placed) (asks : List Ask) : Type 0 where
+pub record AreSaid (writer : Guid) (recording : List (List receiver_values.ActValue)) (pairs : List Pair) (acts : List placed.PlacedValue) (asks : List Ask) : Type 0 where
   pub of_writer : All (λ pair. pair.writer ≡ writer) pairs
-  pub acts_are : map placed.placed_value acts ≡ filter (placed.is_from writer) (placed.placed_in recording)
+  pub acts_are : acts ≡ filter (placed.is_from writer) (placed.placed_in recording)
   pub asks_are : AreAsksOf recording pairs asks
 
 -- the rows are those of the pairs, each with the verdict on it

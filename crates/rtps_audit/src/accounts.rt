@@ -16,7 +16,7 @@ use std::alloc::Global;
 
 /// The accounts of pairs of one writer, as far as a recording has come, and what of the writer is for all of them.
 #[derive(Drop)]
-pub(crate) struct Accounts<C> {
+pub struct Accounts<C> {
     pub(crate) writer: Guid,
     /// The first number that is asked for.
     pub(crate) from: u64,
@@ -51,14 +51,16 @@ impl<C: Coverage> Accounts<C> {
     ghost use Rattle.std.specs.List.Sorted.{IsNonDecreasingBy};
     ghost use Rattle.rtps_ids.specs.declared.identity.Guid.{Guid as GuidValue};
     ghost use Rattle.rtps_receiver.specs.Values as values;
+    ghost use Rattle.rtps_coverage.specs.MergedRanges as merged_ranges;
     ghost use Rattle.rtps_audit.specs.Account as account;
+    ghost use Rattle.rtps_audit.specs.PayloadConflict as payload_conflict;
     ghost use Rattle.rtps_audit.specs.Placed as placed_spec;
     ghost use Rattle.rtps_audit.specs.declared.account.Account.{Account as AccountValue};
     ghost use Rattle.rtps_audit.specs.declared.ask.Ask.{Ask as AskValue};
     ghost use Rattle.rtps_discovery.specs.declared.matching.Pair.{Pair as PairValue};
 
-    /// Before all datagrams. The numbers from `from` on are asked for.
-    pub(crate) fn new(
+    /// Before all datagrams. The numbers from `from` on are asked for. `Memory` is answered where there is none for the accounts.
+    pub fn new(
         alloc: Global,
         writer: Guid,
         pairs: &[Pair],
@@ -101,8 +103,13 @@ impl<C: Coverage> Accounts<C> {
     }
 
     /// Takes in the next act of the writer. After `Memory` the accounts are of no use.
-    fn hear(&mut self, act: &Spoken<'_>) -> Result<(), Memory>
-        ensures { OnOk result (account.TakesIn C.covered (values.spoken_value act.now) self.old self.new) }
+    pub fn hear(&mut self, act: &Spoken<'_>) -> Result<(), Memory>
+        ensures taken { OnOk result (account.TakesIn C.covered (values.spoken_value act.now) self.old self.new) }
+        ensures counted { OnOk result (length self.new.accounts.items ≡ length self.old.accounts.items) }
+        ensures stand { OnOk result ((from datagram : ℕ) (writer : GuidValue) (pairs : List PairValue) (placed : List placed_spec.PlacedValue) (asks : List AskValue)
+            → placed_spec.is_from writer (record { datagram = datagram; act = values.spoken_value act.now }) ≡ true → All (λ ask. ask.answer.datagram ≤ datagram) asks
+            → account.AllStand C.covered from writer pairs placed asks self.old
+            → account.AllStand C.covered from writer pairs (placed ++ record { datagram = datagram; act = values.spoken_value act.now } ∷ []) asks self.new) }
     {
         self.last = self.last.max(announced_number(act, self.writer));
         if !self.tell(act)? {
@@ -127,8 +134,9 @@ impl<C: Coverage> Accounts<C> {
         }
         Ok(())
     }
+
     /// Notes an answer, where all acts in earlier datagrams are heard and none in that of the answer.
-    fn note(&mut self, ask: Ask)
+    pub fn note(&mut self, ask: Ask)
         requires { ask.place < length self.old.accounts.items }
         ensures counted { length self.new.accounts.items ≡ length self.old.accounts.items }
         ensures stand { (from : ℕ) (writer : GuidValue) (pairs : List PairValue) (placed : List placed_spec.PlacedValue) (asks : List AskValue)
@@ -161,28 +169,49 @@ impl<C: Coverage> Accounts<C> {
         Ok(())
     }
 
-    /// The rows of the pairs, where all that the writer and the readers said is taken in, and these are the acts of the writer.
-    pub(crate) fn rows(&self, acts: &[Placed<'_>]) -> Result<Vec<Row>, Memory>
-        ensures counted { IfOk result (λ rows. length rows.items ≡ length self.now.accounts.items) }
-        ensures rows { IfOk result (λ rows. (from : ℕ) (writer : GuidValue) (pairs : List PairValue) (asks : List AskValue) (recording : List (List values.ActValue))
-            → 1 ≤ from → account.AreSaid writer recording pairs acts.now asks
-            → account.AllStand C.covered from writer pairs (map placed_spec.placed_value acts.now) asks self.now
-            → account.AreRowsOf from recording pairs rows.items) }
+    /// The numbers whose payloads are compared.
+    pub fn questions(&self) -> Questions<'_>
+        ensures from { result.from ≡ self.now.from }
+        ensures again { result.again.now ≡ self.now.again }
     {
-        let questions = Questions {
+        Questions {
             from: self.from,
             again: &self.again,
-        };
-        let conflicts = PayloadConflicts::of(self.alloc, acts, questions)?;
+        }
+    }
+
+    /// The rows of the pairs, where all that the writer and the readers said is taken in, and these are the conflicts among the payloads of
+    /// the numbers that are compared. `Memory` is answered where there is none for the rows.
+    pub fn rows_by(&self, conflicts: &PayloadConflicts<'_, '_>) -> Result<Vec<Row>, Memory>
+        ensures counted { IfOk result (λ rows. length rows.items ≡ length self.now.accounts.items) }
+        ensures rows { IfOk result (λ rows. (from : ℕ) (writer : GuidValue) (pairs : List PairValue) (asks : List AskValue) (recording : List (List values.ActValue)) (placed : List placed_spec.PlacedValue)
+            → 1 ≤ from → account.AreSaid writer recording pairs placed asks
+            → account.AllStand C.covered from writer pairs placed asks self.now
+            → payload_conflict.AreConflictsOf (payload_conflict.is_in_question self.now.from (merged_ranges.covered_of self.now.again)) conflicts.now.payloads.items placed
+            → account.AreRowsOf from recording pairs rows.items) }
+    {
         let mut rows = Vec::with_capacity(self.alloc, self.accounts.len())?;
         for account in &self.accounts {
             rows.push(Row {
                 pair: account.pair,
                 verdict: account
                     .claims
-                    .verdict_on(account.pair, &conflicts, self.last),
+                    .verdict_on(account.pair, conflicts, self.last),
             })?;
         }
+        Ok(rows)
+    }
+
+    /// The rows of the pairs, where all that the writer and the readers said is taken in, and these are the acts of the writer.
+    pub(crate) fn rows(&self, acts: &[Placed<'_>]) -> Result<Vec<Row>, Memory>
+        ensures counted { IfOk result (λ rows. length rows.items ≡ length self.now.accounts.items) }
+        ensures rows { IfOk result (λ rows. (from : ℕ) (writer : GuidValue) (pairs : List PairValue) (asks : List AskValue) (recording : List (List values.ActValue))
+            → 1 ≤ from → account.AreSaid writer recording pairs (map placed_spec.placed_value acts.now) asks
+            → account.AllStand C.covered from writer pairs (map placed_spec.placed_value acts.now) asks self.now
+            → account.AreRowsOf from recording pairs rows.items) }
+    {
+        let conflicts = PayloadConflicts::of(self.alloc, acts, self.questions())?;
+        let rows = self.rows_by(&conflicts)?;
         Ok(rows)
     }
 }

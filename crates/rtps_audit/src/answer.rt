@@ -84,7 +84,7 @@ impl Answers {
 }
 
 /// The answer that an act of a datagram is, and the pair that it is of. None where the act answers nobody.
-fn answer_in(datagram: usize, act: &Spoken<'_>) -> Option<(Pair, Answer)>
+pub fn answer_in(datagram: usize, act: &Spoken<'_>) -> Option<(Pair, Answer)>
     ensures answer { MatchOption result
         ((pair : PairValue) → placed.answer_of pair (record { datagram = datagram; act = values.spoken_value act.now }) ≡ None)
         (λ found. (pair : PairValue) → placed.answer_of pair (record { datagram = datagram; act = values.spoken_value act.now })

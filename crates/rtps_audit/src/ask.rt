@@ -5,9 +5,9 @@ use rtps_ids::Memory;
 
 /// An answer, and the place of its pair among those that are judged.
 #[derive(Clone, Copy)]
-pub(crate) struct Ask {
-    pub(crate) place: usize,
-    pub(crate) answer: Answer,
+pub struct Ask {
+    pub place: usize,
+    pub answer: Answer,
 }
 
 impl Ask {

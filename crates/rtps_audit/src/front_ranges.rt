@@ -9,7 +9,7 @@ use std::alloc::Global;
 ///
 /// Numbers that come in order raise the front. That takes no memory, and the same time however many they are.
 #[derive(Drop)]
-pub(crate) struct FrontRanges {
+pub struct FrontRanges {
     front: u64,
     beyond: MergedRanges,
     ghost front_in_range: { (1 ≤ front) × (front < 2 ^ 63) },

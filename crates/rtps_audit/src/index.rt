@@ -167,7 +167,7 @@ fn is_undirected(act: &Spoken<'_>) -> bool
 }
 
 /// How many ACKNACKs for everyone are among acts.
-fn undirected_among(acts: &[Spoken<'_>]) -> u64
+pub fn undirected_among(acts: &[Spoken<'_>]) -> u64
     ensures { result ≡ count_by report.is_undirected (map values.spoken_value acts.now) }
 {
     let mut undirected = 0u64;

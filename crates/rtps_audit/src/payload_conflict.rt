@@ -20,17 +20,17 @@ use std::alloc::Global;
 
 /// A payload that an act tells, and whom it is for. It borrows both, so that little is moved where these are put in order.
 #[derive(Clone, Copy)]
-pub(crate) struct AddressedPayload<'x, 'a> {
-    pub(crate) number: u64,
-    pub(crate) dest: &'x Option<GuidPrefix>,
-    pub(crate) reader: EntityId,
-    pub(crate) payload: &'x Payload<'a>,
+pub struct AddressedPayload<'x, 'a> {
+    pub number: u64,
+    pub dest: &'x Option<GuidPrefix>,
+    pub reader: EntityId,
+    pub payload: &'x Payload<'a>,
 }
 
 /// Of the payloads that a writer tells, those of each number that has two different ones, whoever hears them, in the order
 /// of numbers. Mostly there are none.
 #[derive(Drop)]
-pub(crate) struct PayloadConflicts<'x, 'a> {
+pub struct PayloadConflicts<'x, 'a> {
     pub(crate) payloads: Vec<AddressedPayload<'x, 'a>>,
     ghost sorted: { IsNonDecreasingBy payload_conflict.number_in payloads.items },
     ghost in_range: { All payload_conflict.IsInRange payloads.items },
@@ -51,14 +51,14 @@ fn is_same_payload(one: Payload<'_>, other: Payload<'_>) -> bool
 /// The numbers whose payloads are compared: those from `from` on of which a payload came again, and the greatest number, which
 /// no set has.
 #[derive(Clone, Copy)]
-pub(crate) struct Questions<'q> {
+pub struct Questions<'q> {
     pub(crate) from: u64,
     pub(crate) again: &'q MergedRanges,
 }
 
 impl<'q> Questions<'q> {
     /// Whether payloads of a number are compared.
-    fn ask_for(&self, number: u64) -> bool
+    pub fn ask_for(&self, number: u64) -> bool
         requires positive { 1 ≤ number }
         requires in_range { number < 2 ^ 63 }
         ensures { result ≡ payload_conflict.asks_for self.now number }
@@ -72,7 +72,7 @@ impl<'q> Questions<'q> {
 
 /// The payload that an act tells, where its number is in question; None of any other act. A DATA tells one, and a DATA_FRAG at
 /// which a sample was put together.
-fn addressed<'x, 'a>(
+pub fn addressed<'x, 'a>(
     act: &'x Spoken<'a>,
     questions: Questions<'_>,
 ) -> Option<AddressedPayload<'x, 'a>>
@@ -157,8 +157,9 @@ fn is_another(before: Option<AddressedPayload<'_, '_>>, here: AddressedPayload<'
 }
 
 impl<'x, 'a> PayloadConflicts<'x, 'a> {
-    /// Of these, which are in the order of numbers: the runs of one number in which two payloads differ.
-    fn among(alloc: Global, entries: &[AddressedPayload<'x, 'a>]) -> Result<Self, Memory>
+    /// Of these, which are in the order of numbers: the runs of one number in which two payloads differ. `Memory` is answered where there is
+    /// none for these payloads.
+    pub fn among(alloc: Global, entries: &[AddressedPayload<'x, 'a>]) -> Result<Self, Memory>
         requires sorted { IsNonDecreasingBy payload_conflict.number_in entries.now }
         requires in_range { All payload_conflict.IsInRange entries.now }
         ensures { IfOk result (λ conflicts. payload_conflict.AreConflictsAmong entries.now conflicts.payloads.items) }

@@ -7,7 +7,6 @@ ghost use Rattle.rtps_audit.specs.Account as account;
 
 use crate::index::Index;
 use crate::judging::rows_of_writer;
-use crate::tallies::Tallies;
 use crate::verdict::Verdict;
 use rtps_discovery::Pair;
 use rtps_ids::{Guid, Memory, SeqNum};
@@ -114,22 +113,8 @@ impl<'a> Index<'a> {
         let rows = rows_of(self, &pairs, from, watch)?;
         Ok(Report {
             rows,
-            counts: counts_with(&self.tallies, self.directory.unsettled()),
+            counts: self.tallies.counts(self.directory.unsettled()),
         })
-    }
-}
-
-/// The counts by these sums, where so many GUIDs are unsettled.
-fn counts_with(tallies: &Tallies, unsettled: usize) -> Counts
-    ensures { result ≡ index_spec.counts_with tallies.now unsettled }
-{
-    Counts {
-        datagrams: tallies.datagrams,
-        refused: tallies.refused,
-        skipped: tallies.skipped,
-        fragments: tallies.fragments,
-        undirected: tallies.undirected,
-        unsettled: unsettled as u64,
     }
 }
 

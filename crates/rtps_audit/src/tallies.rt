@@ -1,10 +1,12 @@
+ghost use Rattle.rtps_audit.specs.Index as index_spec;
 ghost use Rattle.std.specs.Prelude.{◌≡◌, ◌+◌, ◌*◌, ◌<◌, ◌≤◌, ◌^◌, if◌then◌else◌};
 
+use crate::report::Counts;
 use rtps_wire::Tally;
 
 /// The sums of what is counted of datagrams.
 #[derive(Clone, Copy, Debug)]
-pub(crate) struct Tallies {
+pub struct Tallies {
     pub(crate) datagrams: u64,
     pub(crate) refused: u64,
     pub(crate) skipped: u128,
@@ -18,7 +20,7 @@ pub(crate) struct Tallies {
 
 impl Tallies {
     /// Of no datagrams.
-    pub(crate) fn new() -> Self
+    pub fn new() -> Self
         ensures datagrams { result.datagrams ≡ 0 }
         ensures refused { result.refused ≡ 0 }
         ensures skipped { result.skipped ≡ 0 }
@@ -35,7 +37,7 @@ impl Tallies {
     }
 
     /// Adds the tally of one datagram more, and how many of its acts are undirected.
-    pub(crate) fn note(&mut self, tally: Tally, undirected: u64)
+    pub fn note(&mut self, tally: Tally, undirected: u64)
         requires { self.old.datagrams + 1 < 2 ^ 64 }
         ensures datagrams { self.new.datagrams ≡ self.old.datagrams + 1 }
         ensures refused { self.new.refused ≡ self.old.refused + (if tally.refused then 1 else 0) }
@@ -50,6 +52,27 @@ impl Tallies {
             fragments: self.fragments + u128::from(tally.fragments),
             undirected: self.undirected + u128::from(undirected),
         };
+    }
+
+    /// How many datagrams were counted.
+    pub fn datagrams(&self) -> u64
+        ensures { result ≡ self.now.datagrams }
+    {
+        self.datagrams
+    }
+
+    /// The counts by these sums, where so many GUIDs are unsettled.
+    pub fn counts(&self, unsettled: usize) -> Counts
+        ensures { result ≡ index_spec.counts_with self.now unsettled }
+    {
+        Counts {
+            datagrams: self.datagrams,
+            refused: self.refused,
+            skipped: self.skipped,
+            fragments: self.fragments,
+            undirected: self.undirected,
+            unsettled: unsettled as u64,
+        }
     }
 }
 

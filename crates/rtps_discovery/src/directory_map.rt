@@ -9,10 +9,13 @@ ghost use Rattle.rtps_discovery.specs.Notice as notice_spec;
 
 use crate::announcement::{read_endpoint, read_participant};
 use crate::endpoint::Endpoint;
-use crate::kept::{Kept, count_unsettled, keep_endpoint, keep_participant, settled, settled_at};
+use crate::kept::{
+    Kept, count_unsettled, keep_copied, keep_endpoint, keep_participant, settled, settled_at,
+};
 use crate::matching::{Match, Pair, reliable_among, reliable_pairs};
 use crate::notice::{Noted, Subject, notice};
 use crate::topic_index::matches_among;
+use bumpalo::Bump;
 use rtps_ids::{Guid, Memory};
 use rtps_receiver::{Act, Spoken, SpokenBody};
 use std::alloc::Global;
@@ -119,6 +122,42 @@ impl<'a> Directory<'a> {
         }
     }
 
+    /// [`Directory::note_spoken`] of an act whose octets are let go afterwards: the names of an endpoint are copied into an arena, where its GUID is
+    /// new.
+    pub fn note_copied(&mut self, act: &Spoken<'_>, names: &'a Bump) -> Result<Noted, Memory>
+        ensures map { OnOk result ((acts : List values.ActValue)
+            → directory.IsMapOf acts self.old → directory.IsMapOf (acts ++ values.spoken_value act.now ∷ []) self.new) }
+        ensures noted { IfOk result (λ noted. noted ≡ notice_spec.answer_of (notice_spec.announcement_of (values.spoken_value act.now))) }
+        ensures err { OnErr result (self.new ≡ self.old) }
+
+        // With nothing to keep, it does not fail.
+        ensures unkept { let answer = notice_spec.answer_of (notice_spec.announcement_of (values.spoken_value act.now)) in
+            answer ≢ Noted.Kept → (result ≡ Ok answer) × (self.new ≡ self.old) }
+        ensures again { let answer = notice_spec.answer_of (notice_spec.announcement_of (values.spoken_value act.now)) in
+            (acts : List values.ActValue) → directory.IsMapOf acts self.old → notice_spec.RepeatsOneOf acts (values.spoken_value act.now)
+            → (result ≡ Ok answer) × (self.new ≡ self.old) }
+    {
+        let Some((subject, payload)) = notice(act) else {
+            return Ok(Noted::Nothing);
+        };
+        match subject {
+            Subject::Participant => match read_participant(payload) {
+                Ok(guid) => {
+                    keep_participant(&mut self.participants, guid)?;
+                    Ok(Noted::Kept)
+                }
+                Err(fault) => Ok(Noted::Fault(fault)),
+            },
+            Subject::Endpoint(side) => match read_endpoint(payload, side) {
+                Ok(endpoint) => {
+                    keep_copied(&mut self.endpoints, &endpoint, names)?;
+                    Ok(Noted::Kept)
+                }
+                Err(fault) => Ok(Noted::Fault(fault)),
+            },
+        }
+    }
+
     /// The GUIDs of the participants, in order.
     pub fn participants(&self) -> Result<Vec<Guid>, Memory>
         ensures { IfOk result (λ guids. guids.items ≡ self.now.participants) }
@@ -186,6 +225,22 @@ impl<'a> Directory<'a> {
         ensures err { OnErr result (directory.HasNotedSome (map values.spoken_value acts.now) self.old self.new) }
     {
         let faults = self.note_each(acts)?;
+        Ok(faults)
+    }
+
+    /// Notes acts in their order, as [`Directory::note_copied`] does, and says how many are announcements with a fault. After `Memory` the acts
+    /// before one of them are noted.
+    pub fn note_all_copied(&mut self, acts: &[Spoken<'_>], names: &'a Bump) -> Result<u64, Memory>
+        ensures map { OnOk result ((before : List values.ActValue)
+            → directory.IsMapOf before self.old → directory.IsMapOf (before ++ map values.spoken_value acts.now) self.new) }
+        ensures faults { IfOk result (λ faults. faults ≡ notice_spec.faults_in (map values.spoken_value acts.now)) }
+        ensures err { OnErr result (directory.HasNotedSome (map values.spoken_value acts.now) self.old self.new) }
+    {
+        let mut faults = 0u64;
+        for act in acts {
+            let noted = self.note_copied(act, names)?;
+            faults += fault_count(noted);
+        }
         Ok(faults)
     }
 

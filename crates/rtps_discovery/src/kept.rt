@@ -1,4 +1,4 @@
-ghost use Rattle.std.specs.Prelude.{◌≡◌, ◌≢◌, ◌∷◌, [], ◌++◌, List, Contains, Some, None, IfOk, OnOk, OnErr, MatchBool, if◌then◌else◌, count_by, filter, map, not, option_copied};
+ghost use Rattle.std.specs.Prelude.{◌≡◌, ◌≢◌, ◌∷◌, [], ◌++◌, List, Contains, Some, None, IfOk, OnOk, OnErr, MatchBool, true, false, count_by, filter, map, not};
 ghost use Rattle.std.specs.BTreeMap.{values};
 ghost use Rattle.std.specs.Option.{option_map};
 ghost use Rattle.rtps_ids.specs.declared.identity.Guid.{Guid};
@@ -7,11 +7,12 @@ ghost use Rattle.rtps_discovery.specs.Endpoint as endpoint_spec;
 ghost use Rattle.rtps_discovery.specs.Kept as kept_spec;
 
 use crate::endpoint::Endpoint;
+use bumpalo::Bump;
 use rtps_ids::{Guid, Memory};
 use std::alloc::Global;
 use std::collections::{BTreeMap, BTreeSet};
 
-/// The last announcement of a GUID, and whether all before it said the same.
+/// The first announcement of a GUID, and whether all behind it say the same.
 #[derive(Clone, Copy)]
 pub(crate) struct Kept<'a> {
     pub(crate) endpoint: Endpoint<'a>,
@@ -30,6 +31,23 @@ pub(crate) fn keep_participant(participants: &mut BTreeSet<Guid>, guid: Guid) ->
     Ok(())
 }
 
+/// Whether the GUID of an endpoint is there. Its announcements are unsettled from then on, where this one disagrees with them.
+fn is_there(endpoints: &mut BTreeMap<Guid, Kept<'_>>, endpoint: &Endpoint<'_>) -> bool
+    ensures there { result ≡ true → (announced : List endpoint_spec.EndpointValue)
+        → directory.AreEntries announced (kept_spec.entries_value endpoints.old.entries)
+        → directory.AreEntries (announced ++ endpoint_spec.endpoint_value endpoint.now ∷ []) (kept_spec.entries_value endpoints.new.entries) }
+    ensures same { result ≡ false → endpoints.new ≡ endpoints.old }
+    ensures absent { result ≡ false → directory.entry_at (kept_spec.entries_value endpoints.old.entries) endpoint.now.guid ≡ None }
+{
+    match endpoints.get_mut(&endpoint.guid) {
+        Some(kept) => {
+            kept.settled = kept.settled && is_same(&kept.endpoint, endpoint);
+            true
+        }
+        None => false,
+    }
+}
+
 /// Adds an endpoint. A GUID that is there already takes no memory.
 pub(crate) fn keep_endpoint<'a>(
     endpoints: &mut BTreeMap<Guid, Kept<'a>>,
@@ -41,28 +59,52 @@ pub(crate) fn keep_endpoint<'a>(
     ensures err { OnErr result (kept_spec.entries_value endpoints.new.entries ≡ kept_spec.entries_value endpoints.old.entries) }
     ensures absent { OnErr result (directory.entry_at (kept_spec.entries_value endpoints.old.entries) endpoint.entry.guid ≡ None) }
 {
-    let mut kept = Kept {
+    if is_there(endpoints, &endpoint) {
+        return Ok(());
+    }
+    let kept = Kept {
         endpoint,
         settled: true,
     };
-    let before = endpoints.insert(endpoint.guid, kept)?;
-    if !agrees(before.as_ref(), &endpoint) {
-        // The GUID is there now, so this takes no memory.
-        kept.settled = false;
-        endpoints.insert(endpoint.guid, kept)?;
-    }
+    endpoints.insert(endpoint.guid, kept)?;
     Ok(())
 }
 
-/// Whether all announcements of a GUID agree, those before and this one.
-fn agrees(kept: Option<&Kept<'_>>, endpoint: &Endpoint<'_>) -> bool
-    ensures { kept_spec.IsJoined (option_map kept_spec.kept_value (option_copied kept.entry)) (endpoint_spec.endpoint_value endpoint.now)
-        (if result then Some (endpoint_spec.endpoint_value endpoint.now) else None) }
+/// An endpoint with its names in an arena.
+fn copied<'a>(endpoint: &Endpoint<'_>, names: &'a Bump) -> Result<Endpoint<'a>, Memory>
+    ensures { IfOk result (λ copy. endpoint_spec.endpoint_value copy ≡ endpoint_spec.endpoint_value endpoint.now) }
 {
-    match kept {
-        None => true,
-        Some(kept) => kept.settled && is_same(&kept.endpoint, endpoint),
+    Ok(Endpoint {
+        guid: endpoint.guid,
+        side: endpoint.side,
+        topic: names.try_alloc_slice_copy(endpoint.topic)?,
+        type_name: names.try_alloc_slice_copy(endpoint.type_name)?,
+        reliability: endpoint.reliability,
+        durability: endpoint.durability,
+    })
+}
+
+/// Adds an endpoint, whose names are copied into an arena. A GUID that is there already takes no memory.
+pub(crate) fn keep_copied<'a>(
+    endpoints: &mut BTreeMap<Guid, Kept<'a>>,
+    endpoint: &Endpoint<'_>,
+    names: &'a Bump,
+) -> Result<(), Memory>
+    ensures ok { OnOk result ((announced : List endpoint_spec.EndpointValue)
+        → directory.AreEntries announced (kept_spec.entries_value endpoints.old.entries)
+        → directory.AreEntries (announced ++ endpoint_spec.endpoint_value endpoint.now ∷ []) (kept_spec.entries_value endpoints.new.entries)) }
+    ensures err { OnErr result (kept_spec.entries_value endpoints.new.entries ≡ kept_spec.entries_value endpoints.old.entries) }
+    ensures absent { OnErr result (directory.entry_at (kept_spec.entries_value endpoints.old.entries) endpoint.now.guid ≡ None) }
+{
+    if is_there(endpoints, endpoint) {
+        return Ok(());
     }
+    let kept = Kept {
+        endpoint: copied(endpoint, names)?,
+        settled: true,
+    };
+    endpoints.insert(endpoint.guid, kept)?;
+    Ok(())
 }
 
 /// Whether two announcements are equal in the six fields.

@@ -11,5 +11,5 @@ returns g c = λ intake is.
       is_map = is.directory;
       pairs = (c.in_ok-rows.ensures intake is).pairs_are ∙ c.deref.ensures.value ∙ c.in_ok-pairs.ensures;
       judged = (c.in_ok-rows.ensures intake is).judged;
-      counts = c.counts_with.ensures ∙ is.counts _ ∙ ap (report.counts_of intake) c.unsettled.ensures;
+      counts = c.counts.ensures ∙ is.counts _ ∙ ap (report.counts_of intake) c.unsettled.ensures;
     })
