@@ -1,4 +1,4 @@
-ghost use Rattle.std.specs.Prelude.{ℕ, Bool, ◌≡◌, ◌≤◌, ◌<◌, ◌++◌, ◌∷◌, [], ◌↔◌, false, true, length, map, slice_index_or, All, Contains, IfOk, IfSome, IsTrue, List, OnOk};
+ghost use Rattle.std.specs.Prelude.{ℕ, Bool, ◌≡◌, ◌≤◌, ◌<◌, ◌^◌, ◌++◌, ◌∷◌, [], ◌↔◌, false, true, length, map, slice_index_or, All, Contains, IfOk, IfSome, IsTrue, List, OnOk};
 ghost use Rattle.std.specs.List.Sorted.{IsStrictlySortedBy};
 ghost use Rattle.rtps_receiver.specs.Values as values;
 ghost use Rattle.rtps_wire.specs.Values as wire_values;
@@ -32,6 +32,7 @@ pub(crate) struct KeptPayload<'p> {
     pub(crate) dest: Option<GuidPrefix>,
     pub(crate) reader: EntityId,
     pub(crate) payload: Payload<'p>,
+    ghost in_range: { (1 ≤ number) × (number < 2 ^ 63) },
 }
 
 /// The payloads of a writer that are compared. One that was sent again to the same readers is kept once.
@@ -130,6 +131,7 @@ impl<'p> KeptPayloads<'p> {
         entry: &AddressedPayload<'_, '_>,
         arena: &'p Bump,
     ) -> Result<KeptPayload<'p>, Memory>
+        requires { payload_conflict.IsInRange entry.now }
         ensures { IfOk result (comparison.IsEntryOf entry.now) }
     {
         let payload = match self.equal_to(entry.number, entry.payload) {
@@ -146,8 +148,9 @@ impl<'p> KeptPayloads<'p> {
 
     /// Keeps an entry, unless it is kept. After `Memory` what is kept is of no use.
     fn keep(&mut self, entry: &AddressedPayload<'_, '_>, arena: &'p Bump) -> Result<(), Memory>
+        requires { payload_conflict.IsInRange entry.now }
         ensures { OnOk result ((wanted : ℕ → Bool) (placed : List placed_spec.PlacedValue) (at : placed_spec.PlacedValue)
-            → payload_conflict.IsSentBy at.act entry.now → wanted entry.now.number ≡ true → payload_conflict.IsInRange entry.now
+            → payload_conflict.IsSentBy at.act entry.now → wanted entry.now.number ≡ true
             → comparison.AreKept wanted placed self.old.payloads.items → comparison.AreKept wanted (placed ++ at ∷ []) self.new.payloads.items) }
     {
         if self.has(entry) {
@@ -169,7 +172,7 @@ fn entries_of<'x, 'p>(
     alloc: Global,
     kept: &'x [KeptPayload<'p>],
 ) -> Result<Vec<AddressedPayload<'x, 'p>>, Memory>
-    ensures in_range { All comparison.IsInRange kept.now → IfOk result (λ entries. All payload_conflict.IsInRange entries.items) }
+    ensures in_range { IfOk result (λ entries. All payload_conflict.IsInRange entries.items) }
     ensures sent { (wanted : ℕ → Bool) (placed : List placed_spec.PlacedValue) → comparison.AreKept wanted placed kept.now → IfOk result (λ entries. payload_conflict.AreSentIn wanted placed entries.items) }
 {
     let mut entries = Vec::with_capacity(alloc, kept.len())?;
@@ -258,14 +261,16 @@ impl<'j, 'p> Comparison<'j, 'p> {
         Ok(())
     }
 
-    /// What is kept of the writer at a place.
-    fn kept_at(&self, place: usize) -> &[KeptPayload<'p>]
-        ensures { result.now ≡ comparison.kept_at self.now.kept.items place }
+    /// The entries of what is kept of the writer at a place.
+    fn entries_at(&self, place: usize) -> Result<Vec<AddressedPayload<'_, 'p>>, Memory>
+        ensures sent { (wanted : ℕ → Bool) (placed : List placed_spec.PlacedValue) → comparison.AreKept wanted placed (comparison.kept_at self.now.kept.items place)
+            → IfOk result (λ entries. payload_conflict.AreSentIn wanted placed entries.items) }
+        ensures in_range { IfOk result (λ entries. All payload_conflict.IsInRange entries.items) }
     {
-        let Some(kept) = self.kept.get(place) else {
-            return &[];
-        };
-        &kept.payloads
+        match self.kept.get(place) {
+            Some(kept) => entries_of(self.alloc, &kept.payloads),
+            None => Ok(Vec::new(self.alloc)),
+        }
     }
 
     /// The rows of the pairs of the writer at a place.
@@ -274,7 +279,7 @@ impl<'j, 'p> Comparison<'j, 'p> {
         ensures { (from : ℕ) (pairs : List PairValue) (recording : List (List values.ActValue)) (d : JudgedValue) → comparison.IsComparisonBy from pairs recording recording self.now
             → IfOk result (λ rows. account.AreRowsOf from recording (judging_spec.pairs_of (slice_index_or self.now.judging.now.writers.items place d)) rows.items) }
     {
-        let mut entries = entries_of(self.alloc, self.kept_at(place))?;
+        let mut entries = self.entries_at(place)?;
         entries.sort_by_key(|entry| entry.number)?;
         let conflicts = PayloadConflicts::among(self.alloc, &entries)?;
         let rows = self.judging.writers[place].accounts.rows_by(&conflicts)?;
