@@ -102,14 +102,9 @@ impl<C: Coverage> Accounts<C> {
         Ok(again)
     }
 
-    /// Takes in the next act of the writer. After `Memory` the accounts are of no use.
-    pub fn hear(&mut self, act: &Spoken<'_>) -> Result<(), Memory>
-        ensures taken { OnOk result (account.TakesIn C.covered (values.spoken_value act.now) self.old self.new) }
-        ensures counted { OnOk result (length self.new.accounts.items ≡ length self.old.accounts.items) }
-        ensures stand { OnOk result ((from datagram : ℕ) (writer : GuidValue) (pairs : List PairValue) (placed : List placed_spec.PlacedValue) (asks : List AskValue)
-            → placed_spec.is_from writer (record { datagram = datagram; act = values.spoken_value act.now }) ≡ true → All (λ ask. ask.answer.datagram ≤ datagram) asks
-            → account.AllStand C.covered from writer pairs placed asks self.old
-            → account.AllStand C.covered from writer pairs (placed ++ record { datagram = datagram; act = values.spoken_value act.now } ∷ []) asks self.new) }
+    /// Tells the readers the next act of the writer, and keeps what of it is for all of them. After `Memory` the accounts are of no use.
+    fn take(&mut self, act: &Spoken<'_>) -> Result<(), Memory>
+        ensures { OnOk result (account.TakesIn C.covered (values.spoken_value act.now) self.old self.new) }
     {
         self.last = self.last.max(announced_number(act, self.writer));
         if !self.tell(act)? {
@@ -118,6 +113,18 @@ impl<C: Coverage> Accounts<C> {
         if let Some(number) = act.said().told {
             add_range(&mut self.again, number, number + 1)?;
         }
+        Ok(())
+    }
+
+    /// Takes in the next act of the writer. After `Memory` the accounts are of no use.
+    pub fn hear(&mut self, act: &Spoken<'_>) -> Result<(), Memory>
+        ensures counted { OnOk result (length self.new.accounts.items ≡ length self.old.accounts.items) }
+        ensures stand { OnOk result ((from datagram : ℕ) (writer : GuidValue) (pairs : List PairValue) (placed : List placed_spec.PlacedValue) (asks : List AskValue)
+            → placed_spec.is_from writer (record { datagram = datagram; act = values.spoken_value act.now }) ≡ true → All (λ ask. ask.answer.datagram ≤ datagram) asks
+            → account.AllStand C.covered from writer pairs placed asks self.old
+            → account.AllStand C.covered from writer pairs (placed ++ record { datagram = datagram; act = values.spoken_value act.now } ∷ []) asks self.new) }
+    {
+        self.take(act)?;
         Ok(())
     }
 
