@@ -46,7 +46,7 @@ fn end_before(acts: &[Placed<'_>], start: usize, datagram: usize) -> usize
 }
 
 impl<C: Coverage> Accounts<C> {
-    ghost use Rattle.std.specs.Prelude.{ℕ, ◌≡◌, ◌≤◌, ◌<◌, ◌++◌, ◌∷◌, [], true, length, map, slice_index_or, List, IfOk, OnOk};
+    ghost use Rattle.std.specs.Prelude.{ℕ, ◌≡◌, ◌≤◌, ◌<◌, ◌-◌, ◌^◌, ◌++◌, ◌∷◌, [], false, true, length, map, slice_index_or, List, IfOk, OnOk};
     ghost use Rattle.std.specs.List.{All};
     ghost use Rattle.std.specs.List.Sorted.{IsNonDecreasingBy};
     ghost use Rattle.rtps_ids.specs.declared.identity.Guid.{Guid as GuidValue};
@@ -185,6 +185,15 @@ impl<C: Coverage> Accounts<C> {
             from: self.from,
             again: &self.again,
         }
+    }
+
+    /// Whether some number may have payloads that are compared: one of which a payload came again, or the greatest number, which no set
+    /// has.
+    pub fn has_questions(&self) -> bool
+        ensures again { result ≡ false → (n : ℕ) → merged_ranges.covered_of self.now.again n ≡ false }
+        ensures last { result ≡ false → self.now.last < 2 ^ 63 - 1 }
+    {
+        self.last == i64::MAX.cast_unsigned() || !self.again.is_empty()
     }
 
     /// The rows of the pairs, where all that the writer and the readers said is taken in, and these are the conflicts among the payloads of
