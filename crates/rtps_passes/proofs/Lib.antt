@@ -1,0 +1,3 @@
+pub mod PlaceLemmas
+pub mod TakingLemmas
+pub mod BeginLemmas
