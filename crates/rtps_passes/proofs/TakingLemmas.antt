@@ -20,7 +20,7 @@ use Rattle.rtps_audit.specs.declared.accounts.Accounts.{Accounts}
 use Rattle.rtps_audit.specs.declared.answer.Answer.{Answer}
 use Rattle.rtps_audit.specs.declared.ask.Ask.{Ask}
 use Rattle.rtps_audit.specs.declared.front_ranges.FrontRanges.{FrontRanges}
-use Rattle.rtps_audit.proofs.AskLemmas.{pushed}
+use Rattle.rtps_audit.proofs.AskLemmas.{later_place, other_place, pushed}
 use Rattle.rtps_audit.proofs.PlacedLemmas.{answer_added}
 use Rattle.rtps_passes.specs.Judging as judging
 use Rattle.rtps_passes.specs.declared.judged_writer.JudgedWriter.{JudgedWriter}
@@ -125,13 +125,13 @@ written_flat f (x ∷ xs) (suc place) new same = ap (λ l. f x ++ l) (written_fl
 -- what holds of each, where one is written over
 pub all_written : {X : Type 0} (P Q : X → Type 0) (xs : List X) (place : ℕ) (new : X) → ((d : X) → place < length xs → P (get_or xs place d) → Q new) → ((k : ℕ) (d : X) → k < length xs → (place == k) ≡ false → P (get_or xs k d) → Q (get_or xs k d)) → All P xs → All Q (set xs place new)
 all_written P Q xs place new here others all k d within = elim (cases_lt k place) [
-  | inl before ↦ elsewhere (Rattle.rtps_audit.proofs.AskLemmas.other_place k place before) (λ e. omega (arith, e))
+  | inl before ↦ elsewhere (other_place k place before) (λ e. omega (arith, e))
   | inr ge ↦ elim (cases_lt place k) [
-    | inl after ↦ elsewhere (Rattle.rtps_audit.proofs.AskLemmas.later_place k place after) (λ e. omega (arith, e))
+    | inl after ↦ elsewhere (later_place k place after) (λ e. omega (arith, e))
     | inr le ↦
         let e : place ≡ k = omega arith in
-        let lt : place < length xs = omega arith in
-        subst (λ p. Q (get_or (set xs place new) p d)) e (subst Q (sym (get_or-set_same xs place new d lt)) (here d lt (all place d lt)))
+        let inside : place < length xs = omega (arith, lt) in
+        subst (λ p. Q (get_or (set xs place new) p d)) e (subst Q (sym (get_or-set_same xs place new d inside)) (here d inside (all place d inside)))
   ]
 ]
   where

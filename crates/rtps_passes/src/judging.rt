@@ -1,4 +1,4 @@
-ghost use Rattle.std.specs.Prelude.{ℕ, ◌≡◌, ◌≤◌, ◌<◌, ◌++◌, ◌∷◌, [], false, length, map, slice_index_or, All, IfOk, IfSome, List, OnOk};
+ghost use Rattle.std.specs.Prelude.{ℕ, ◌≡◌, ◌≢◌, ◌≤◌, ◌<◌, ◌++◌, ◌∷◌, [], false, length, map, slice_index_or, All, IfOk, IfSome, List, OnOk};
 ghost use Rattle.std.specs.List.{AllWithin, HoldsAt};
 ghost use Rattle.std.specs.List.Sorted.{IsStrictlySortedBy};
 ghost use Rattle.std.specs.Ordering.{is_eq};
@@ -50,7 +50,7 @@ fn writer_end(pairs: &[Pair], start: usize, writer: Guid) -> usize
     ensures onward { start ≤ result }
     ensures within { result ≤ length pairs.now }
     ensures of_writer { AllWithin (λ pair. pair.writer ≡ writer) pairs.now start result }
-    ensures end { result < length pairs.now → HoldsAt (λ pair. is_eq (guid_order.guid_cmp pair.writer writer) ≡ false) pairs.now result }
+    ensures end { result < length pairs.now → HoldsAt (λ pair. pair.writer ≢ writer) pairs.now result }
 {
     for place in start..pairs.len() {
         let pair = pairs[place];
