@@ -1,5 +1,5 @@
 -- The accounts of pairs in order, before all datagrams: those of one writer after another.
-use Rattle.std.proofs.Common.{◌≡◌, ℕ, ◌+◌, ◌-◌, ◌<◌, ◌≤◌, ◌≢◌, List, [], ◌∷◌, ◌++◌, append-nil, get_or, length, map, take, drop, inl, inr, refl, sym, ap, ◌∙◌, subst, arith}
+use Rattle.std.proofs.Common.{◌≡◌, ℕ, suc, ◌+◌, ◌-◌, ◌<◌, ◌≤◌, ◌≢◌, List, [], ◌∷◌, ◌++◌, append-nil, get_or, length, map, take, drop, inl, inr, refl, sym, ap, ◌∙◌, subst, arith}
 use Rattle.std.specs.Prelude.{flat_map}
 use Rattle.std.specs.Cmp.{IsTotalOrder}
 use Rattle.std.specs.List.{All, AllWithin, HoldsAt, slice_range}
@@ -62,7 +62,7 @@ pub pairs_with : (writer : Guid) (pairs : List Pair) → All (λ (pair : Pair). 
 pairs_with writer [] of = refl
 pairs_with writer (pair ∷ pairs) of =
     ap (λ (w : Guid). judging.pair_with w pair.reader ∷ map (judging.pair_with writer) (map (λ (pair : Pair). pair.reader) pairs)) (sym (of 0 pair (omega arith)))
-    ∙ ap (λ l. pair ∷ l) (pairs_with writer pairs (λ k d lt. of (k + 1) d (omega arith)))
+    ∙ ap (λ l. pair ∷ l) (pairs_with writer pairs (λ k d lt. of (suc k) d (omega arith)))
 
 -- the writer of the next pair is above, where it is another
 pub writer_below : (pairs : List Pair) (start end : ℕ) (d : Pair) → IsStrictlySortedBy pair_cmp pairs → start < end → end < length pairs → (get_or pairs end d).writer ≢ (get_or pairs start d).writer → guid_cmp (get_or pairs start d).writer (get_or pairs end d).writer ≡ Less

@@ -15,6 +15,7 @@ use Rattle.rtps_discovery.specs.GuidOrder.{guid_cmp}
 use Rattle.rtps_audit.proofs.AskLemmas.{later_place, other_place, same_place}
 use Rattle.rtps_audit.proofs.PlacedLemmas.{guids_total}
 use Rattle.rtps_passes.specs.Judging as judging
+use Rattle.rtps_passes.specs.declared.judged_writer.JudgedWriter.{JudgedWriter}
 
 pub greater : (one other : Guid) → guid_cmp one other ≡ Less → guid_cmp other one ≡ Greater
 greater one other less = guids_total.antisymm other one ∙ ap ordering_reverse less
@@ -56,3 +57,8 @@ module _ {X : Type 0} (key : X → Guid) (xs : List X) (sorted : IsStrictlySorte
         | inl before ↦ ap is_eq (apart.0 place d (omega arith) before)
         | inr ge ↦ ap is_eq (apart.1 place d ge lt)
       ]
+
+-- where a writer is among writers in order
+abbrev pub FindsWriter : List JudgedWriter → Guid → Option ℕ → Type 0
+FindsWriter writers writer found =
+    IsStrictlySortedBy guid_cmp (map (λ (judged : JudgedWriter). judged.writer) writers) → (place : ℕ) (d : JudgedWriter) → place < length writers → is_eq (guid_cmp (get_or writers place d).writer writer) ≡ judging.is_found found place

@@ -1,10 +1,15 @@
 -- What the accounts of writers have taken in after one answer more, and after one act more.
-use Rattle.std.proofs.Common.{◌≡◌, ℕ, zero, suc, ◌+◌, ◌<◌, ◌≤◌, Bool, true, false, cond, filter, List, [], ◌∷◌, ◌++◌, append-nil, append_assoc, get_or, length, map, set, Option, Some, None, ◌⊎◌, inl, inr, refl, sym, ap, ◌∙◌, subst, arith}
+use Rattle.std.proofs.Common.{◌≡◌, ℕ, zero, suc, ◌+◌, ◌<◌, ◌≤◌, Bool, true, false, ◌&&◌, cond, filter, List, [], ◌∷◌, ◌++◌, append-nil, append_assoc, get_or, length, map, set, Option, Some, None, ◌⊎◌, inl, inr, refl, sym, ap, ◌∙◌, subst, arith}
 use Rattle.std.specs.Prelude.{◌==◌, flat_map}
+use Rattle.std.specs.Global.{Vec}
 use Rattle.std.specs.List.{All, cons_option, filter_map}
 use Rattle.std.specs.List.Sorted.{IsStrictlySortedBy}
-use Rattle.std.specs.Ordering.{is_eq}
+use Rattle.std.specs.Ordering.{is_eq, ordering_then}
+use Rattle.std.specs.declared.cmp.Ordering.{Ordering}
+use Rattle.std.specs.declared.cmp.Ordering.TheVariants.{Less, Equal, Greater}
+use Rattle.std.specs.Option.{unwrap_or}
 use Rattle.std.proofs.lemmas.Bool.{cases_lt}
+use Rattle.std.proofs.lemmas.Cmp.{tied_itself}
 use Rattle.std.proofs.lemmas.List.{get_or-set_other, get_or-set_same, length-set}
 use Rattle.std.proofs.lemmas.List.Elements.{All-append, All-map, All-nil, All-push, All-weaker, filter-append, filter_map-append}
 use Rattle.rtps_ids.specs.declared.identity.Guid.{Guid}
@@ -16,14 +21,16 @@ use Rattle.rtps_discovery.specs.declared.matching.Pair.{Pair}
 use Rattle.rtps_audit.specs.Account as account
 use Rattle.rtps_audit.specs.FrontRanges as front_ranges
 use Rattle.rtps_audit.specs.Placed as placed_spec
+use Rattle.rtps_audit.specs.Speech as speech
 use Rattle.rtps_audit.specs.declared.accounts.Accounts.{Accounts}
 use Rattle.rtps_audit.specs.declared.answer.Answer.{Answer}
 use Rattle.rtps_audit.specs.declared.ask.Ask.{Ask}
 use Rattle.rtps_audit.specs.declared.front_ranges.FrontRanges.{FrontRanges}
 use Rattle.rtps_audit.proofs.AskLemmas.{later_place, other_place, pushed}
-use Rattle.rtps_audit.proofs.PlacedLemmas.{answer_added}
+use Rattle.rtps_audit.proofs.PlacedLemmas.{answer_added, is_eq-guid_cmp}
 use Rattle.rtps_passes.specs.Judging as judging
 use Rattle.rtps_passes.specs.declared.judged_writer.JudgedWriter.{JudgedWriter}
+use Rattle.rtps_passes.proofs.BeginLemmas.{pairs_total}
 
 -- the accounts of a writer stand for these acts and asks
 abbrev pub StandFor : ℕ → Guid → List Guid → List placed_spec.PlacedValue → List Ask → Accounts FrontRanges → Type 0
@@ -60,6 +67,24 @@ answers_more known pair asked act answer found place are is =
 pub answers_same : (pair : Pair) (asked : List placed_spec.PlacedValue) (act : placed_spec.PlacedValue) → placed_spec.answer_of pair act ≡ None → placed_spec.answers_among pair asked ≡ placed_spec.answers_among pair (asked ++ act ∷ [])
 answers_same pair asked act none = sym (filter_map-append (placed_spec.answer_of pair) asked (act ∷ []) ∙ ap (λ o. placed_spec.answers_among pair asked ++ cons_option o []) none ∙ append-nil _)
 
+is_eq-then : (a b : Ordering) → is_eq (ordering_then a b) ≡ is_eq a && is_eq b
+is_eq-then Less b = refl
+is_eq-then Equal b = refl
+is_eq-then Greater b = refl
+
+-- an answer of one pair is that of a pair of this writer as its writer and its reader are found
+pub answer_found : (act : placed_spec.PlacedValue) (one : Pair) (answer : Answer) (writer : Guid) (b : Bool) → ((pair : Pair) → placed_spec.answer_of pair act ≡ cond (is_eq (listings.pair_cmp pair one)) (Some answer) None) → is_eq (guid_cmp writer one.writer) ≡ b
+    → (reader : Guid) → placed_spec.answer_of (judging.pair_with writer reader) act ≡ cond (b && is_eq (guid_cmp reader one.reader)) (Some answer) None
+answer_found act one answer writer b is found reader = is (judging.pair_with writer reader) ∙ ap (λ t. cond t (Some answer) None) (is_eq-then (guid_cmp writer one.writer) (guid_cmp reader one.reader) ∙ ap (λ t. t && is_eq (guid_cmp reader one.reader)) found)
+
+stands_at : (datagram at : ℕ) (base : Option ℕ) (answer : Answer) → placed_spec.answer_at datagram at base ≡ Some answer → answer.datagram ≡ datagram
+stands_at datagram at None answer is = cc
+stands_at datagram at (Some base) answer is = sym (ap (λ (o : Option Answer). let none : Answer = answer in (unwrap_or o none).datagram) is)
+
+-- it stands where its act does
+pub answer_stands : (act : placed_spec.PlacedValue) (one : Pair) (answer : Answer) → ((pair : Pair) → placed_spec.answer_of pair act ≡ cond (is_eq (listings.pair_cmp pair one)) (Some answer) None) → answer.datagram ≡ act.datagram
+answer_stands act one answer is = stands_at act.datagram act.act.at (speech.base_for one.writer one.reader act.act) answer (is one ∙ ap (λ o. cond (is_eq o) (Some answer) None) (tied_itself pairs_total one))
+
 -- an answer of a reader of the writer
 pub answer_taken : (from : ℕ) (asked heard : List placed_spec.PlacedValue) (act : placed_spec.PlacedValue) (reader : Guid) (answer : Answer) (found : ℕ) (old new : JudgedWriter) → new.writer ≡ old.writer → new.readers.items ≡ old.readers.items → 1 ≤ answer.datagram
     → ((other : Guid) → placed_spec.answer_of (judging.pair_with old.writer other) act ≡ cond (is_eq (guid_cmp other reader)) (Some answer) None)
@@ -88,6 +113,10 @@ answer_elsewhere from datagram asked heard act judged none known = record {
 
 pub from_more : (writer : Guid) (heard : List placed_spec.PlacedValue) (act : placed_spec.PlacedValue) (b : Bool) → placed_spec.is_from writer act ≡ b → filter (placed_spec.is_from writer) (heard ++ act ∷ []) ≡ filter (placed_spec.is_from writer) heard ++ cond b (act ∷ []) []
 from_more writer heard act b is = filter-append (placed_spec.is_from writer) heard (act ∷ []) ∙ ap (λ t. filter (placed_spec.is_from writer) heard ++ cond t (act ∷ []) []) is
+
+-- an act is from a writer as its GUID is found
+pub from_found : (writer origin : Guid) (act : placed_spec.PlacedValue) (b : Bool) → origin ≡ receiver_speech.origin_of act.act → is_eq (guid_cmp writer origin) ≡ b → placed_spec.is_from writer act ≡ b
+from_found writer origin act b from found = ap (placed_spec.is_guid writer) (sym from) ∙ sym (is_eq-guid_cmp writer origin) ∙ found
 
 -- an act of the writer
 pub act_taken : (from datagram : ℕ) (asked heard : List placed_spec.PlacedValue) (act : placed_spec.PlacedValue) (old new : JudgedWriter) → new.writer ≡ old.writer → new.readers.items ≡ old.readers.items → placed_spec.is_from old.writer act ≡ true
@@ -142,12 +171,12 @@ all_written P Q xs place new here others all k d within = elim (cases_lt k place
     elsewhere differs apart = subst Q (sym (get_or-set_other xs place k new d apart)) (others k d lt differs (all k d lt))
 
 -- the accounts of one writer took in an answer or an act, and those of the others need not
-pub one_taken : (from datagram : ℕ) (pairs : List Pair) (asked heard asked' heard' : List placed_spec.PlacedValue) (writers : List JudgedWriter) (place : ℕ) (new : JudgedWriter) → ((d : JudgedWriter) → new.writer ≡ (get_or writers place d).writer) → ((d : JudgedWriter) → new.readers.items ≡ (get_or writers place d).readers.items)
+pub one_taken : (from datagram : ℕ) (pairs : List Pair) (asked heard asked' heard' : List placed_spec.PlacedValue) (writers : List JudgedWriter) (place : ℕ) (new : JudgedWriter) → ((d : JudgedWriter) → new.writer ≡ (get_or writers place d).writer) → ((d : JudgedWriter) → new.readers ≡ (get_or writers place d).readers)
     → ((d : JudgedWriter) → place < length writers → judging.HasTakenIn from datagram asked heard (get_or writers place d) → judging.HasTakenIn from datagram asked' heard' new)
     → ((k : ℕ) (d : JudgedWriter) → k < length writers → (place == k) ≡ false → judging.HasTakenIn from datagram asked heard (get_or writers k d) → judging.HasTakenIn from datagram asked' heard' (get_or writers k d))
     → judging.HaveTakenIn from datagram pairs asked heard writers → judging.HaveTakenIn from datagram pairs asked' heard' (set writers place new)
 one_taken from datagram pairs asked heard asked' heard' writers place new of are here others known = record {
-  pairs_are = written_flat judging.pairs_of writers place new (λ d. ap (λ (w : Guid). map (judging.pair_with w) new.readers.items) (of d) ∙ ap (map (judging.pair_with (get_or writers place d).writer)) (are d)) ∙ known.pairs_are;
+  pairs_are = written_flat judging.pairs_of writers place new (λ d. ap (λ (w : Guid). map (judging.pair_with w) new.readers.items) (of d) ∙ ap (λ (v : Vec Guid). map (judging.pair_with (get_or writers place d).writer) v.items) (are d)) ∙ known.pairs_are;
   in_order = subst (IsStrictlySortedBy guid_cmp) (sym (written (λ (w : JudgedWriter). w.writer) writers place new of)) known.in_order;
   each = all_written (judging.HasTakenIn from datagram asked heard) (judging.HasTakenIn from datagram asked' heard') writers place new here others known.each;
 }
