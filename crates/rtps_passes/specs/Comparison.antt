@@ -14,8 +14,8 @@ use Rattle.rtps_audit.specs.Speech as speech
 use Rattle.rtps_audit.specs.declared.payload_conflict.AddressedPayload.{AddressedPayload}
 use Rattle.rtps_passes.specs.Judging as judging
 use Rattle.rtps_passes.specs.declared.comparison.Comparison.{Comparison}
-use Rattle.rtps_passes.specs.declared.comparison.KeptPayload.{KeptPayload}
-use Rattle.rtps_passes.specs.declared.comparison.KeptPayloads.{KeptPayloads}
+use Rattle.rtps_passes.specs.declared.kept_payload.KeptPayload.{KeptPayload}
+use Rattle.rtps_passes.specs.declared.kept_payloads.KeptPayloads.{KeptPayloads}
 use Rattle.rtps_passes.specs.declared.judged_writer.JudgedWriter.{JudgedWriter}
 
 -- what is kept is the payload of an entry, and whom that is for
