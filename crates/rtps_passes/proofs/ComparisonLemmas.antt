@@ -1,9 +1,11 @@
 -- What a comparison has kept of each writer.
-use Rattle.std.proofs.Common.{ℕ, zero, suc, ◌≡◌, ◌+◌, ◌<◌, ◌≤◌, ◌-◌, ◌^◌, Bool, true, false, ◌&&◌, ◌||◌, filter, List, [], ◌∷◌, ◌++◌, append-nil, Some, None, length, map, get_or, set, inl, inr, refl, sym, ◌∙◌, ap, subst, arith}
-use Rattle.std.specs.Prelude.{◌≢◌, ◌==◌, if◌then◌else◌, All, Contains, slice_get}
+use Rattle.std.proofs.Common.{ℕ, zero, suc, ◌≡◌, ◌+◌, ◌<◌, ◌≤◌, ◌-◌, ◌^◌, Bool, true, false, ◌&&◌, ◌||◌, filter, List, [], ◌∷◌, ◌++◌, append-nil, Some, None, length, map, get_or, set, take, inl, inr, refl, sym, ◌∙◌, ap, subst, arith}
+use Rattle.std.specs.Prelude.{◌≢◌, ◌==◌, if◌then◌else◌, All, Contains, flat_map, slice_get}
 use Rattle.std.specs.List.{filter_map}
 use Rattle.std.proofs.lemmas.Bool.{cases_lt, eqb-true}
-use Rattle.std.proofs.lemmas.List.Elements.{All-contains}
+use Rattle.std.proofs.lemmas.Grind.{flat_map-append}
+use Rattle.std.proofs.lemmas.List.{get_or-map, length-map, map-append, take_more}
+use Rattle.std.proofs.lemmas.List.Elements.{All-append, All-contains, All-map}
 use Rattle.rtps_ids.specs.declared.identity.EntityId.{EntityId}
 use Rattle.rtps_ids.specs.declared.identity.Guid.{Guid}
 use Rattle.rtps_coverage.specs.MergedRanges as merged_ranges
@@ -11,11 +13,14 @@ use Rattle.rtps_receiver.specs.Speech as receiver_speech
 use Rattle.rtps_receiver.specs.Values as receiver_values
 use Rattle.rtps_wire.specs.Values as wire_values
 use Rattle.rtps_discovery.specs.declared.matching.Pair.{Pair}
+use Rattle.rtps_audit.specs.Account as account
 use Rattle.rtps_audit.specs.Answered as answered
 use Rattle.rtps_audit.specs.Delivery as delivery
 use Rattle.rtps_audit.specs.PayloadConflict as payload_conflict
 use Rattle.rtps_audit.specs.Placed as placed_spec
+use Rattle.rtps_audit.specs.Report as report
 use Rattle.rtps_audit.specs.Speech as speech
+use Rattle.rtps_audit.specs.declared.report.Row.{Row}
 use Rattle.rtps_audit.proofs.AccountsLemmas.{all_passed}
 use Rattle.rtps_audit.proofs.AskLemmas.{same_place}
 use Rattle.rtps_audit.proofs.Greatest.{greatest_below}
@@ -132,3 +137,33 @@ nothing_asked from datagram placed judged none known = record {
       let small = none.last in
       absurd (omega (arith, is, below, last, small));
 }
+
+-- ---- the rows
+
+-- what the accounts of a writer have taken in is what was said
+pub said_of : (from datagram : ℕ) (recording : List (List receiver_values.ActValue)) (judged : JudgedWriter) (known : judging.HasTakenIn from datagram (placed_spec.placed_in recording) (placed_spec.placed_in recording) judged)
+    → account.AreSaid judged.writer recording (judging.pairs_of judged) (filter (placed_spec.is_from judged.writer) (placed_spec.placed_in recording)) known.asks
+said_of from datagram recording judged known = record {
+  of_writer = All-map (λ (pair : Pair). pair.writer ≡ judged.writer) (judging.pair_with judged.writer) judged.readers.items (λ k d lt. refl);
+  acts_are = refl;
+  asks_are = record {
+    counted = known.stand.counted;
+    same = λ place d lt answer.
+        let long = length-map judged.readers.items (judging.pair_with judged.writer) in
+        let within : place < length judged.readers.items = omega (arith, long) in
+        let e = known.asks_are place d.reader within ∙ ap (λ (p : Pair). placed_spec.answers_among p (placed_spec.placed_in recording)) (sym (get_or-map (judging.pair_with judged.writer) judged.readers.items place d.reader d within)) in
+        (subst (λ l. Contains l answer) e, subst (λ l. Contains l answer) (sym e));
+  };
+}
+
+-- rows of some pairs, and of others
+pub rows_joined : (from : ℕ) (recording : List (List receiver_values.ActValue)) (one other : List Pair) (rows more new : List Row) → new ≡ rows ++ more → account.AreRowsOf from recording one rows → account.AreRowsOf from recording other more → account.AreRowsOf from recording (one ++ other) new
+rows_joined from recording one other rows more new is known next = subst (account.AreRowsOf from recording (one ++ other)) (sym is) (record {
+  pairs_are = map-append (λ (row : Row). row.pair) rows more ∙ ap (λ l. l ++ map (λ (row : Row). row.pair) more) known.pairs_are ∙ ap (λ l. one ++ l) next.pairs_are;
+  judged = All-append (report.IsJudgedFrom from recording) rows more known.judged next.judged;
+})
+
+-- the pairs of one writer more
+pub pairs_more : (writers : List JudgedWriter) (place : ℕ) (d : JudgedWriter) → place < length writers → flat_map judging.pairs_of (take (place + 1) writers) ≡ flat_map judging.pairs_of (take place writers) ++ judging.pairs_of (get_or writers place d)
+pairs_more writers place d lt =
+    ap (flat_map judging.pairs_of) (take_more writers place d lt) ∙ flat_map-append judging.pairs_of (take place writers) (get_or writers place d ∷ []) ∙ ap (λ l. flat_map judging.pairs_of (take place writers) ++ l) (append-nil _)

@@ -103,7 +103,7 @@ entries_more entries new kept entry one is of known = subst (λ l. AreEntries l 
 })
 
 -- what stands at a place
-element : {X : Type 0} (xs : List X) (k : ℕ) → k < length xs → (x : X) × ((d : X) → get_or xs k d ≡ x)
+pub element : {X : Type 0} (xs : List X) (k : ℕ) → k < length xs → (x : X) × ((d : X) → get_or xs k d ≡ x)
 element [] k lt = absurd (omega arith)
 element (x ∷ xs) zero lt = (x, λ d. refl)
 element (x ∷ xs) (suc k) lt = element xs k (omega arith)

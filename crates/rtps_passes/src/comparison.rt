@@ -95,10 +95,11 @@ impl<'j, 'p> Comparison<'j, 'p> {
         };
         self.latest = place;
         let questions = self.judging.writers[place].accounts.questions();
-        match addressed(act, questions) {
-            Some(entry) => self.keep(place, &entry, payloads),
-            None => Ok(()),
-        }
+        let Some(entry) = addressed(act, questions) else {
+            return Ok(());
+        };
+        self.keep(place, &entry, payloads)?;
+        Ok(())
     }
 
     /// Takes in the acts of the next datagram. Payloads of numbers in question are copied into an arena. After `Memory` the comparison is of
