@@ -1,4 +1,4 @@
-use Rattle.std.proofs.Common.{◌≡◌, [], ◌∙◌, ◌≤◌, ◌<◌, ap, arith, get_or, length, refl, subst}
+use Rattle.std.proofs.Common.{◌≡◌, [], ap, arith, get_or, refl, subst}
 use Rattle.std.proofs.lemmas.List.{get_or_default, take_all}
 use Rattle.rtps_discovery.specs.declared.matching.Pair.{Pair}
 use Rattle.rtps_audit.proofs.PlacedLemmas.{all_between, all_with_first, no_pair}

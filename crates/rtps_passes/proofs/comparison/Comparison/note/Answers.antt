@@ -25,7 +25,7 @@ loop-act-preserved c =
           let so_far = placed ++ placed_spec.placed_at datagram (map values.spoken_value (take k acts)) in
           let one : placed_spec.PlacedValue = record { datagram = datagram; act = values.spoken_value c.act-item.result } in
           let more = subst (λ (j : Bor Judging). IsStrictlySortedBy guid_cmp (map (λ (judged : JudgedWriter). judged.writer) j.now.writers.items) → comparison.HaveKept j.now.writers.items so_far old → comparison.HaveKept j.now.writers.items (so_far ++ one ∷ []) new)
-              c.loop-act.invariant.judging (c.in_ok-note_act.ensures.kept datagram so_far) in
+          c.loop-act.invariant.judging (c.in_ok-note_act.ensures.kept datagram so_far) in
           subst (λ l. comparison.HaveKept writers l new) (append_assoc placed _ _ ∙ ap (λ l. placed ++ l) (sym (placed_more datagram acts k c.act-item.result c.loop-act-test.true c.act-item.is)))
           (more sorted (c.loop-act.invariant.kept datagram placed sorted known));
     }
@@ -38,7 +38,7 @@ returns c = λ from pairs recording compared known.
     let placed = placed_spec.placed_in compared in
     let datagram = length compared + 1 in
     let now = subst (λ l. comparison.HaveKept writers (placed ++ placed_spec.placed_at datagram (map values.spoken_value l)) kept) (take_all c.loop-act.act-index c.args.acts.now (omega (arith, c.loop-act-test.false)))
-        (c.loop-act.invariant.kept datagram placed known.judging.taken.in_order known.kept) in
+    (c.loop-act.invariant.kept datagram placed known.judging.taken.in_order known.kept) in
     let all = subst (λ l. comparison.HaveKept writers l kept) (placed_push compared acts (length compared) refl) now in
     record {
       judging = subst (λ (j : Bor Judging). judging.IsJudgingBy from pairs recording j.now) (sym c.loop-act.invariant.judging) known.judging;

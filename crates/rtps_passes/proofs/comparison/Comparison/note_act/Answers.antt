@@ -1,4 +1,4 @@
-use Rattle.std.proofs.Common.{◌≡◌, ◌<◌, ◌∙◌, ap, filter, get_or, length, refl, subst, sym, Some}
+use Rattle.std.proofs.Common.{◌∙◌, ap, filter, get_or, refl, subst, sym, Some}
 use Rattle.std.proofs.lemmas.List.{get_or_default}
 use Rattle.rtps_coverage.specs.MergedRanges as merged_ranges
 use Rattle.rtps_receiver.specs.Values as values

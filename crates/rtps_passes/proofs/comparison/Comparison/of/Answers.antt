@@ -1,4 +1,4 @@
-use Rattle.std.proofs.Common.{ap, get_or, subst, sym}
+use Rattle.std.proofs.Common.{get_or, subst, sym}
 use Rattle.rtps_audit.specs.Placed as placed_spec
 use Rattle.rtps_passes.specs.Comparison as comparison
 use Rattle.rtps_passes.proofs.ComparisonLemmas.{nothing_asked}

@@ -32,5 +32,5 @@ returns c = λ from pairs recording d known.
     let sent = sent_moved (comparison.is_wanted one) acts _ _ c.in_ok-sort_by_key.ensures.permutation (c.in_ok-entries.ensures.sent (comparison.is_wanted one) acts kept) in
     let conflicts = subst (λ l. payload_conflict.AreConflictsAmong l c.in_ok-conflicts.conflicts.payloads.items) c.deref.ensures.value c.in_ok-conflicts.ensures in
     let rows = c.in_ok-rows.ensures.rows from one.writer (judging.pairs_of one) taken.asks recording acts known.judging.positive (said_of from self.judging.now.datagrams recording one taken) taken.stand
-        (record { entries = c.sort_by_key.new.self.items; sent = sent; conflicts = conflicts }) in
+    (record { entries = c.sort_by_key.new.self.items; sent = sent; conflicts = conflicts }) in
     subst (λ (w : JudgedWriter). account.AreRowsOf from recording (judging.pairs_of w) c.in_ok-rows.rows.items) here rows

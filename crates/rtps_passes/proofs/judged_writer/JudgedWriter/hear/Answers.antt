@@ -1,4 +1,4 @@
-use Rattle.std.proofs.Common.{filter, map, refl}
+use Rattle.std.proofs.Common.{filter, refl}
 use Rattle.rtps_receiver.specs.Values as values
 use Rattle.rtps_audit.specs.Placed as placed_spec
 use Rattle.rtps_passes.specs.Judging as judging

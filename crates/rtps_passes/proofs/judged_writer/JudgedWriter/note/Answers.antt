@@ -1,8 +1,8 @@
-use Rattle.std.proofs.Common.{◌≡◌, ◌∙◌, ◌<◌, All, ap, arith, cond, filter, get_or, refl, None, Some}
+use Rattle.std.proofs.Common.{◌∙◌, ◌<◌, ap, cond, filter, get_or, refl, None, Some}
 use Rattle.std.proofs.lemmas.List.Elements.{All-filter}
 use Rattle.rtps_audit.specs.Placed as placed_spec
 use Rattle.rtps_passes.specs.Judging as judging
-use Rattle.rtps_passes.proofs.TakingLemmas.{answer_elsewhere, answer_taken, ask_of}
+use Rattle.rtps_passes.proofs.TakingLemmas.{answer_elsewhere, answer_taken}
 use Rattle.rtps_passes.proofs.judged_writer.JudgedWriter.note.Goals as goal
 
 pub returns-in-Some-clause-taken : goal.returns-in-Some-clause-taken

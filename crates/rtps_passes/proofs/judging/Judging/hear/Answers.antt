@@ -1,4 +1,4 @@
-use Rattle.std.proofs.Common.{◌≡◌, ◌<◌, ◌∙◌, ap, get_or, length, subst, sym, Some}
+use Rattle.std.proofs.Common.{◌<◌, ◌∙◌, ap, get_or, length, subst, sym, Some}
 use Rattle.std.specs.Ordering.{is_eq}
 use Rattle.std.proofs.lemmas.List.{get_or_read}
 use Rattle.rtps_receiver.specs.Values as values

@@ -1,5 +1,5 @@
-use Rattle.std.proofs.Common.{◌≡◌, ◌∙◌, ◌+◌, ◌≤◌, ◌<◌, ◌++◌, ◌∷◌, [], ap, arith, length, map, subst, sym}
-use Rattle.std.proofs.lemmas.List.{length-append, take-append-le, take_all}
+use Rattle.std.proofs.Common.{◌≡◌, ◌∙◌, ◌+◌, ◌≤◌, ◌++◌, ◌∷◌, [], ap, arith, length, map, subst, sym}
+use Rattle.std.proofs.lemmas.List.{length-append}
 use Rattle.rtps_receiver.specs.Values as values
 use Rattle.rtps_audit.specs.Placed as placed_spec
 use Rattle.rtps_audit.proofs.PlacedActs.{placed_push}
@@ -16,16 +16,13 @@ returns c = λ from pairs recording known.
     let begun = later_taken from before pairs placed placed c.args.self.now.writers.items known.taken in
     let counted : before + 1 ≡ length recording + 1 = ap (λ n. n + 1) known.counted in
     let positive : 1 ≤ before + 1 = omega arith in
-    let noted = c.in_ok-note_answers.ensures from pairs placed placed positive (earlier recording (before + 1) counted) (subst (judging.HaveTakenIn from (before + 1) pairs placed placed) (sym c.deref_mut.ensures.value) begun) in
-    let new = c.note_answers.new.writers in
-    let long : length new ≡ c.args.self.now.writers.len = omega (arith, c.note_answers.auto.writers, c.deref_mut.ensures.len, ap length c.deref_mut.ensures.value) in
-    let le : c.args.self.now.writers.len ≤ length new = omega (arith, long) in
-    let ge : length new ≤ c.args.self.now.writers.len = omega (arith, long) in
-    let written = take-append-le c.args.self.now.writers.len new _ le ∙ take_all c.args.self.now.writers.len new ge in
-    let heard = c.in_ok-hear_all.ensures.taken from (before + 1) pairs (placed ++ placed_spec.placed_at (before + 1) acts) placed (subst (judging.HaveTakenIn from (before + 1) pairs (placed ++ placed_spec.placed_at (before + 1) acts) placed) (sym written) noted) in
-    let both = subst (λ l. judging.HaveTakenIn from (before + 1) pairs l l c.hear_all.new.self.writers.items) more heard in
+    let both = placed ++ placed_spec.placed_at (before + 1) acts in
+    let noted = c.in_ok-note_answers.ensures.taken from pairs placed placed positive (earlier recording (before + 1) counted) begun in
+    let heard = c.in_ok-hear_all.ensures.taken from (before + 1) pairs both placed noted in
+    let all = subst (λ l. judging.HaveTakenIn from (before + 1) pairs l l c.hear_all.new.self.writers.items) more heard in
+    let now : c.hear_all.new.self.datagrams ≡ before + 1 = c.in_ok-hear_all.ensures.datagrams ∙ c.in_ok-note_answers.ensures.datagrams in
     record {
       positive = known.positive;
-      counted = omega (arith, c.in_ok-hear_all.ensures.datagrams, known.counted, length-append recording (acts ∷ []));
-      taken = subst (λ n. judging.HaveTakenIn from n pairs (placed_spec.placed_in (recording ++ acts ∷ [])) (placed_spec.placed_in (recording ++ acts ∷ [])) c.hear_all.new.self.writers.items) (sym c.in_ok-hear_all.ensures.datagrams) both;
+      counted = omega (arith, now, known.counted, length-append recording (acts ∷ []));
+      taken = subst (λ n. judging.HaveTakenIn from n pairs (placed_spec.placed_in (recording ++ acts ∷ [])) (placed_spec.placed_in (recording ++ acts ∷ [])) c.hear_all.new.self.writers.items) (sym now) all;
     }
