@@ -1,4 +1,4 @@
-ghost use Rattle.std.specs.Prelude.{ℕ, Bool, ◌≡◌, ◌≢◌, ◌≤◌, ◌<◌, ◌++◌, ◌∷◌, [], ◌↔◌, false, true, length, map, slice_index_or, All, Contains, IfOk, IfSome, IsTrue, List, OnOk};
+ghost use Rattle.std.specs.Prelude.{ℕ, Bool, ◌≡◌, ◌≢◌, ◌<◌, ◌++◌, ◌∷◌, [], true, length, map, slice_index_or, All, IfOk, List, OnOk};
 ghost use Rattle.std.specs.List.Sorted.{IsStrictlySortedBy};
 ghost use Rattle.rtps_receiver.specs.Values as values;
 ghost use Rattle.rtps_discovery.specs.GuidOrder as guid_order;

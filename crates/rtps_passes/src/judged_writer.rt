@@ -5,7 +5,6 @@ ghost use Rattle.rtps_ids.specs.declared.identity.Guid.{Guid as GuidValue};
 ghost use Rattle.rtps_receiver.specs.Values as values;
 ghost use Rattle.rtps_discovery.specs.GuidOrder as guid_order;
 ghost use Rattle.rtps_discovery.specs.Listings as listings;
-ghost use Rattle.rtps_discovery.specs.declared.matching.Pair.{Pair as PairValue};
 ghost use Rattle.rtps_audit.specs.Placed as placed_spec;
 
 use rtps_audit::{Accounts, Answer, Ask, FirstAsked, FrontRanges};
