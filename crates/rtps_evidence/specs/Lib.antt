@@ -25,8 +25,10 @@ pub mod Grounds
 pub mod Evidence
 pub mod Certificates
 pub mod Explanation
+pub mod Ears
 pub mod Times
 pub mod Waits
 pub mod Heard
 pub mod Ledger
+pub mod Cases
 pub mod WayRound

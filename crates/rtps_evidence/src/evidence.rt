@@ -9,27 +9,22 @@ ghost use Rattle.rtps_audit.specs.Speech as speech;
 ghost use Rattle.rtps_coverage.specs.Stretches as stretches;
 ghost use Rattle.rtps_fragments.specs.Hearing as hearing;
 
-use crate::acknowledgement::{Claim, find_acknowledgement};
+use crate::acknowledgement::Claim;
+use crate::case::Case;
+use crate::ear::hear_all;
 use crate::exchange::{Exchange, Extent};
-use crate::excused::missed_of;
 use crate::first_missed::FirstMissed;
-use crate::grounds::{Grounds, grounds_kept, grounds_of};
-use crate::heard::Heard;
+use crate::grounds::{Grounds, grounds_kept};
+use crate::hearer::Hearer;
 use crate::in_span::InSpan;
 use crate::judgement::{Judgement, verdict_of};
 use crate::kinds::LostNumbers;
 use crate::last_announcement::Announcement;
-use crate::ledger::Ledger;
-use crate::missed::count_missed;
 use crate::not_received::NotReceived;
 use crate::other_side::{Arrivals, Sides};
-use crate::outcome::Unreceived;
-use crate::received::count_received;
-use crate::spanned::Spanned;
 use crate::times::Times;
 use bumpalo::Bump;
 use rtps_audit::{Index, Said, Verdict};
-use rtps_coverage::rising::rising;
 use rtps_discovery::Pair;
 use rtps_fragments::laws::{pairs_are_heard_without_fragments, verdicts_stay_without_fragments};
 use rtps_fragments::{have_fragments, heard_said};
@@ -252,44 +247,13 @@ impl<'a> Evidence<'a> {
             → IfOk result (λ found. evidence_spec.IsBeside exchange.now.in_spans beside exchange.now.span exchange.now.pair all recording found.evidence.in_span
             × kinds.IsLostIn exchange.now.in_spans beside exchange.now.span exchange.now.pair all recording (kinds.lost_value found.lost)) }
     {
-        let answers = exchange.said.answers;
-        let mut heard = Heard::of(alloc, exchange)?;
-        let asked = heard.announced.asked(exchange.span.from);
-        let mut lacking = heard.numbers.lacking(alloc, answers, &asked)?;
-        let mut lacking = rising(alloc, &mut lacking)?;
-        let ledger = Ledger::of(alloc, exchange, &lacking)?;
-        let mut unmet = ledger.unmet(alloc)?;
-        let unmet = rising(alloc, &mut unmet)?;
-        let mut missed = missed_of(alloc, exchange, &unmet, &asked)?;
-        let unreceived = Unreceived {
-            numbers: &lacking,
-            unmet: &unmet,
-            missed: &missed,
-            ledger: &ledger,
-            heard: &heard,
-        };
-        let spanned = Spanned::of(alloc, exchange, unreceived, &asked)?;
-        let missed = count_missed(alloc, &mut missed, exchange, &asked)?;
-        let received = count_received(&mut lacking, exchange, &asked)?;
-        let amounts = heard.numbers.amounts(&asked)?;
-        let evidence = Evidence {
-            verdict,
-            announcement: heard.announced.first_from(exchange.span.from),
-            acknowledgement: find_acknowledgement(answers, exchange.span.from),
-            payloads: amounts.payloads,
-            gone: amounts.gone,
-            untold: amounts.untold,
-            received: received.count,
-            not_received: received.not_received,
-            missed: missed.count,
-            first_missed: missed.first,
-            grounds: grounds_of(exchange, &heard.asked, &verdict),
-            in_span: spanned.in_span,
-        };
-        Ok(Found {
-            evidence,
-            lost: spanned.lost,
-        })
+        let acts = exchange.said.acts;
+        let mut hearer = Hearer::new(alloc, exchange, verdict)?;
+        hear_all(&mut hearer, acts)?;
+        let mut case = Case::of(alloc, hearer)?;
+        hear_all(&mut case, acts)?;
+        let found = case.found(alloc)?;
+        Ok(found)
     }
 
     /// The evidence of an index's recording for a writer and a reader, any two GUIDs, by all numbers, as [`Evidence::of_from`] finds it.
