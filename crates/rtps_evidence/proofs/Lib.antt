@@ -37,6 +37,7 @@ pub mod TimeLemmas
 pub mod WaitLemmas
 pub mod HeardLemmas
 pub mod LedgerLemmas
+pub mod CaseLemmas
 pub mod PlaceOrder
 pub mod KeptLemmas
 pub mod KindLemmas

@@ -1,4 +1,4 @@
-use Rattle.std.proofs.Common.{◌∙◌, ◌-◌, ap, max, subst, sym}
+use Rattle.std.proofs.Common.{◌∙◌, ◌-◌, [], ap, max, subst, sym}
 use Rattle.rtps_audit.specs.Placed as placed
 use Rattle.rtps_coverage.specs.Stretches as stretches
 use Rattle.rtps_evidence.specs.Claimed as claimed
@@ -17,5 +17,5 @@ returns-clause-case c = λ heard.
       lacking = λ recording is n low high.
           c.in_ok-lacking.ensures.same n n
           ∙ c.in_ok-numbers.ensures pair recording is.answers (subst (λ l. claimed.AreHeard exchange.said.answers.now pair l hearer.heard.numbers) is.acts heard.numbers) n low high;
-      ledger = subst (λ l. ledger.Stands exchange (stretches.stretches_have l) _ c.in_ok-ledger.ledger) c.deref.ensures.value c.in_ok-ledger.ensures;
+      ledger = subst (λ l. ledger.Stands exchange (stretches.stretches_have l) [] c.in_ok-ledger.ledger) c.deref.ensures.value c.in_ok-ledger.ensures;
     }
