@@ -38,6 +38,7 @@ pub mod WaitLemmas
 pub mod HeardLemmas
 pub mod LedgerLemmas
 pub mod CaseLemmas
+pub mod TogetherLemmas
 pub mod PlaceOrder
 pub mod KeptLemmas
 pub mod KindLemmas

@@ -32,3 +32,4 @@ pub mod Heard
 pub mod Ledger
 pub mod Cases
 pub mod WayRound
+pub mod Together

@@ -11,6 +11,7 @@ ghost use Rattle.rtps_fragments.specs.Hearing as hearing;
 
 use crate::acknowledgement::Claim;
 use crate::case::Case;
+use crate::docket::Docket;
 use crate::ear::hear_all;
 use crate::exchange::{Exchange, Extent};
 use crate::first_missed::FirstMissed;
@@ -21,10 +22,10 @@ use crate::judgement::{Judgement, verdict_of};
 use crate::kinds::LostNumbers;
 use crate::last_announcement::Announcement;
 use crate::not_received::NotReceived;
-use crate::other_side::{Arrivals, Sides};
+use crate::other_side::Sides;
 use crate::times::Times;
 use bumpalo::Bump;
-use rtps_audit::{Index, Said, Verdict};
+use rtps_audit::{Index, Verdict};
 use rtps_discovery::Pair;
 use rtps_fragments::laws::{pairs_are_heard_without_fragments, verdicts_stay_without_fragments};
 use rtps_fragments::{have_fragments, heard_said};
@@ -101,6 +102,7 @@ impl<'a> Evidence<'a> {
     ghost use Rattle.rtps_evidence.specs.Kinds as kinds;
     ghost use Rattle.rtps_evidence.specs.OtherSide as other_side;
     ghost use Rattle.rtps_evidence.specs.Spans as spans;
+    ghost use Rattle.rtps_evidence.specs.Together as together;
 
     /// The evidence of an index's recording for a writer and a reader, any two GUIDs, by the writer's numbers from `from` on, and by what the
     /// reader hears. Payloads of a conflict that the reader put together have their octets in the arena. `Memory` is answered where what is kept
@@ -126,36 +128,22 @@ impl<'a> Evidence<'a> {
             in_spans: false,
         };
         let judgement = Judgement::of(index, pair, &[], &extent);
-        let found = Evidence::of_judged(alloc, &sides, judgement)?;
+        let docket = Docket::of(alloc, &sides, judgement)?;
+        let found = Evidence::of_docket(alloc, &sides, &docket)?;
         Ok(found.evidence)
     }
 
-    /// The evidence for a judgement. `Memory` as of [`Evidence::of_from`].
-    pub(crate) fn of_judged(
+    /// The evidence of one pair. `Memory` as of [`Evidence::of_from`].
+    pub(crate) fn of_docket(
         alloc: Global,
         sides: &Sides<'_, 'a, '_, '_>,
-        judgement: Judgement,
+        docket: &Docket,
     ) -> Result<Found<'a>, Memory>
-        ensures shown { (intake : intake.Intake) (beside : other_side.Beside) → other_side.AreSides intake beside sides.now
-            → IfSome judgement.known (evidence_spec.IsVerdictIn judgement.span judgement.pair intake.acts)
-            → IfOk result (λ found. evidence_spec.IsShown (other_side.is_there intake.acts beside.other judgement.pair) judgement.span.from (spans.since_of judgement.span) judgement.pair (spans.heard_in judgement.span judgement.pair intake.acts) found.evidence) }
-        ensures beside { (intake : intake.Intake) (beside : other_side.Beside) → other_side.AreSides intake beside sides.now
-            → IfSome judgement.known (evidence_spec.IsVerdictIn judgement.span judgement.pair intake.acts)
-            → IfOk result (λ found. evidence_spec.IsBeside judgement.in_spans beside judgement.span judgement.pair intake.acts (spans.heard_in judgement.span judgement.pair intake.acts) found.evidence.in_span
-            × kinds.IsLostIn judgement.in_spans beside judgement.span judgement.pair intake.acts (spans.heard_in judgement.span judgement.pair intake.acts) (kinds.lost_value found.lost)) }
+        ensures { (setting : together.Setting) → together.AreSidesIn setting sides.now → together.IsDocket setting docket.now
+            → IfOk result (together.IsFound setting docket.now.judgement.pair) }
     {
-        let arrivals = Arrivals::of(alloc, sides, judgement.pair)?;
-        let exchange = Exchange {
-            pair: judgement.pair,
-            span: judgement.span,
-            in_spans: judgement.in_spans,
-            said: Said::until(sides.index, judgement.pair, judgement.span.until),
-            way: arrivals.way,
-            is_held: arrivals.is_held,
-            there: &arrivals.numbers,
-            times: sides.times,
-        };
-        let found = Evidence::of_said(alloc, sides.arena, &exchange, judgement.known)?;
+        let exchange = docket.exchange(sides);
+        let found = Evidence::of_said(alloc, sides.arena, &exchange, docket.judgement.known)?;
         Ok(found)
     }
 
