@@ -1,21 +1,25 @@
 -- Pairs of one writer that are heard together: what each of them heard is what it is judged by.
-use Rattle.std.proofs.Common.{ℕ, zero, suc, ◌==◌, append-nil, ◌≡◌, ◌∙◌, ◌+◌, ◌-◌, ◌<◌, ◌≤◌, ◌^◌, ◌||◌, Bool, true, false, cond, filter, get_or, length, map, nat_lt, take, List, [], ◌∷◌, ◌++◌, Option, Some, None, refl, sym, ap, subst, arith, append_assoc, inl, inr}
+use Rattle.std.proofs.Common.{ℕ, zero, suc, ◌==◌, append-nil, ◌≡◌, ◌∙◌, ◌+◌, ◌-◌, ◌<◌, ◌≤◌, ◌^◌, ◌||◌, Bool, true, false, cond, drop, filter, get_or, length, map, nat_lt, take, List, [], ◌∷◌, ◌++◌, Option, Some, None, refl, sym, ap, subst, arith, append_assoc, inl, inr}
 use Rattle.std.specs.Prelude.{All, IfSome}
 use Rattle.std.specs.List.{list_any}
 use Rattle.std.proofs.lemmas.Bool.{cases_lt}
 use Rattle.std.proofs.lemmas.Bool.Decides.{nat_tests}
-use Rattle.std.proofs.lemmas.List.{map-append, take_more}
-use Rattle.std.proofs.lemmas.List.Elements.{filter-append}
+use Rattle.std.proofs.lemmas.List.{map-append, take-append-le, take_all, take_more}
+use Rattle.std.proofs.lemmas.List.Elements.{All-nil, filter-append}
 use Rattle.rtps_ids.specs.declared.identity.Guid.{Guid}
+use Rattle.rtps_discovery.specs.Directory as directory_spec
 use Rattle.rtps_discovery.specs.declared.matching.Pair.{Pair}
 use Rattle.rtps_receiver.specs.Values as values
+use Rattle.rtps_audit.specs.Intake as intake_spec
 use Rattle.rtps_audit.specs.Placed as placed
 use Rattle.rtps_audit.specs.Said as said
 use Rattle.rtps_audit.specs.declared.verdict.Verdict.{Verdict}
 use Rattle.rtps_evidence.specs.Cases as cases
 use Rattle.rtps_evidence.specs.Ears as ears
 use Rattle.rtps_evidence.specs.Evidence as evidence
+use Rattle.rtps_evidence.specs.Explanation as explanation
 use Rattle.rtps_evidence.specs.Heard as heard
+use Rattle.rtps_evidence.specs.Kinds as kinds
 use Rattle.rtps_evidence.specs.OtherSide as other_side
 use Rattle.rtps_evidence.specs.Spans as spans
 use Rattle.rtps_evidence.specs.Together as together
@@ -23,6 +27,8 @@ use Rattle.rtps_evidence.specs.declared.brief.Brief.{Brief}
 use Rattle.rtps_evidence.specs.declared.case.Case.{Case}
 use Rattle.rtps_evidence.specs.declared.docket.Docket.{Docket}
 use Rattle.rtps_evidence.specs.declared.exchange.Exchange.{Exchange}
+use Rattle.rtps_evidence.specs.declared.explanation.ExplainedRows.{ExplainedRows}
+use Rattle.rtps_evidence.specs.declared.explanation.Explanation.{Explanation}
 use Rattle.rtps_evidence.specs.declared.hearer.Hearer.{Hearer}
 use Rattle.rtps_evidence.specs.declared.judgement.Judgement.{Judgement}
 use Rattle.rtps_evidence.specs.declared.leaving_ear.LeavingEar.{LeavingEar}
@@ -195,3 +201,22 @@ docket_is setting docket judgement pair same of_pair in_spans extent known there
 pub none_behind : {X Y : Type 0} (f : X → Y) (before : List Y) (xs : List X) → (length xs == 0) ≡ true → before ≡ before ++ map f xs
 none_behind f before [] is = sym (append-nil before)
 none_behind f before (x ∷ xs) is = absurd (let zero : length (x ∷ xs) ≡ 0 = grind (arith, nat_tests) in omega arith)
+
+-- no rows are those of no pairs
+pub no_rows : (setting : together.Setting) (found : ExplainedRows) (directory : directory_spec.DirectoryValue) → directory_spec.IsMapOf (intake_spec.acts_together setting.intake.announcing) directory → found.rows.items ≡ [] → found.lost.items ≡ []
+    → together.AreRows setting [] found
+no_rows setting found directory is_map rows lost =
+    subst (λ l. explanation.AreExplained setting.spans setting.from setting.beside setting.intake [] l (map kinds.lost_value found.lost.items)) (sym rows)
+    (subst (λ l. explanation.AreExplained setting.spans setting.from setting.beside setting.intake [] [] (map kinds.lost_value l)) (sym lost) (record {
+      of_pairs = refl;
+      places = refl;
+      losses = tt;
+      directory = directory;
+      is_map = is_map;
+      named = All-nil (explanation.IsNamed directory.endpoints);
+      shown = All-nil (λ (row : Explanation). evidence.IsEvidenceBy setting.spans setting.from setting.beside row.pair setting.intake row.evidence);
+    }))
+
+-- a list that is written as a whole
+pub whole_back : {X : Type 0} (n : ℕ) (new old : List X) → length new ≡ length old → n ≡ length old → take n (new ++ drop (length new) old) ≡ new
+whole_back n new old same is = take-append-le n new (drop (length new) old) (omega arith) ∙ take_all n new (omega arith)

@@ -25,7 +25,7 @@ use crate::not_received::NotReceived;
 use crate::other_side::Sides;
 use crate::times::Times;
 use bumpalo::Bump;
-use rtps_audit::{Index, Verdict};
+use rtps_audit::{Index, Said, Verdict};
 use rtps_discovery::Pair;
 use rtps_fragments::laws::{pairs_are_heard_without_fragments, verdicts_stay_without_fragments};
 use rtps_fragments::{have_fragments, heard_said};
@@ -142,7 +142,20 @@ impl<'a> Evidence<'a> {
         ensures { (setting : together.Setting) → together.AreSidesIn setting sides.now → together.IsDocket setting docket.now
             → IfOk result (together.IsFound setting docket.now.judgement.pair) }
     {
-        let exchange = docket.exchange(sides);
+        let exchange = Exchange {
+            pair: docket.judgement.pair,
+            span: docket.judgement.span,
+            in_spans: docket.judgement.in_spans,
+            said: Said::until(
+                sides.index,
+                docket.judgement.pair,
+                docket.judgement.span.until,
+            ),
+            way: docket.arrivals.way,
+            is_held: docket.arrivals.is_held,
+            there: &docket.arrivals.numbers,
+            times: sides.times,
+        };
         let found = Evidence::of_said(alloc, sides.arena, &exchange, docket.judgement.known)?;
         Ok(found)
     }
