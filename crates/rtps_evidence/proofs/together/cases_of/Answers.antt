@@ -16,7 +16,7 @@ loop-reader-preserved c =
     let case = c.in_ok-case.case in
     let old = c.loop-reader.cases.items in
     let items = c.in_ok-push.ensures.items in
-    let turn = YieldsList-turn (YieldsList-from_vec {s = c.into_iter-reader-iterator.result} all (search rules) (search rules)) so_far _ c.loop-reader.yielded_by _ _ reader c.in-Some.is c.next.ensures.steps in
+    let turn = YieldsList-turn (YieldsList-from_vec {s = c.into_iter-reader-iterator.result} all (search rules) (search rules)) so_far c.loop-reader.reader-iterator c.loop-reader.yielded_by c.next.result c.next.new.self reader c.in-Some.is c.next.ensures.steps in
     record {
       pairs =
           ap (map together.case_pair) items ∙ map_push together.case_pair old case ∙ ap (λ l. l ++ together.case_pair case ∷ []) c.loop-reader.invariant.pairs
@@ -31,5 +31,5 @@ pub returns-clause-pairs : goal.returns-clause-pairs
 returns-clause-pairs c =
     let all = c.args.readers.items in
     let so_far = c.loop-reader.yielded in
-    let end = YieldsList-end (YieldsList-from_vec {s = c.into_iter-reader-iterator.result} all (search rules) (search rules)) so_far _ c.loop-reader.yielded_by _ _ c.in-None.is c.next.ensures.steps in
+    let end = YieldsList-end (YieldsList-from_vec {s = c.into_iter-reader-iterator.result} all (search rules) (search rules)) so_far c.loop-reader.reader-iterator c.loop-reader.yielded_by c.next.result c.next.new.self c.in-None.is c.next.ensures.steps in
     c.loop-reader.invariant.pairs ∙ ap (map together.reader_pair) (sym (map-id so_far) ∙ end.0)

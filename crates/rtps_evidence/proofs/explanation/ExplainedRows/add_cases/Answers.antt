@@ -20,7 +20,7 @@ loop-case-preserved c = λ setting pairs is_map cases rows.
     let all = c.args.cases.items in
     let so_far = c.loop-case.yielded in
     let case = c.in-Some.case in
-    let turn = YieldsList-turn (YieldsList-from_vec {s = c.into_iter-case-iterator.result} all (search rules) (search rules)) so_far _ c.loop-case.yielded_by _ _ case c.in-Some.is c.next.ensures.steps in
+    let turn = YieldsList-turn (YieldsList-from_vec {s = c.into_iter-case-iterator.result} all (search rules) (search rules)) so_far c.loop-case.case-iterator c.loop-case.yielded_by c.next.result c.next.new.self case c.in-Some.is c.next.ensures.steps in
     let is = subst (together.IsClosed setting) (sym turn.1) (cases (length so_far) case turn.0) in
     let exchange = case.ear.brief.exchange in
     let acts = setting.intake.acts in
@@ -50,5 +50,5 @@ pub returns : goal.returns
 returns c = λ setting pairs is_map cases rows.
     let all = c.args.cases.items in
     let so_far = c.loop-case.yielded in
-    let end = YieldsList-end (YieldsList-from_vec {s = c.into_iter-case-iterator.result} all (search rules) (search rules)) so_far _ c.loop-case.yielded_by _ _ c.in-None.is c.next.ensures.steps in
+    let end = YieldsList-end (YieldsList-from_vec {s = c.into_iter-case-iterator.result} all (search rules) (search rules)) so_far c.loop-case.case-iterator c.loop-case.yielded_by c.next.result c.next.new.self c.in-None.is c.next.ensures.steps in
     subst (λ (l : List (LeavingEar Case)). together.AreRows setting (pairs ++ map together.case_pair l) c.loop-case.self) (sym (map-id so_far) ∙ end.0) (c.loop-case.invariant setting pairs is_map cases rows)
