@@ -21,6 +21,7 @@ pub mod GoneLemmas
 pub mod QuestionedLemmas
 pub mod SilenceLemmas
 pub mod SpanLemmas
+pub mod NewcomerLemmas
 pub mod OutcomeLemmas
 pub mod ClaimedThen
 pub mod CountedLemmas

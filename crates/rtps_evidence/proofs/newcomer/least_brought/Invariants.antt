@@ -4,7 +4,7 @@ use Rattle.std.specs.List.{list_any}
 use Rattle.rtps_audit.specs.Placed as placed
 use Rattle.rtps_evidence.specs.Missed as missed
 use Rattle.rtps_evidence.specs.Spans as spans
-use Rattle.rtps_evidence.proofs.span.least_brought.Given as goal
+use Rattle.rtps_evidence.proofs.newcomer.least_brought.Given as goal
 
 -- the least so far
 abbrev pub invariant-loop-placed : goal.invariant-loop-placed

@@ -2,7 +2,7 @@ use Rattle.std.proofs.Common.{ℕ}
 use Rattle.rtps_audit.specs.Placed as placed
 use Rattle.rtps_evidence.specs.Missed as missed
 use Rattle.rtps_evidence.proofs.SpanLemmas.{least_more, lesser_below}
-use Rattle.rtps_evidence.proofs.span.least_brought.Goals as goal
+use Rattle.rtps_evidence.proofs.newcomer.least_brought.Goals as goal
 
 pub loop-placed-preserved : goal.loop-placed-preserved
 loop-placed-preserved c =

@@ -1,6 +1,6 @@
 use Rattle.std.proofs.Common.{◌≡◌, ◌≤◌, ◌<◌, ◌-◌, ◌^◌, true}
 use Rattle.rtps_receiver.specs.Said as said
-use Rattle.rtps_evidence.proofs.span.end_of.Given as goal
+use Rattle.rtps_evidence.proofs.newcomer.end_of.Given as goal
 
 -- the number before it is among them
 abbrev pub invariant-apart : goal.invariant-apart
