@@ -2,8 +2,8 @@
 use Rattle.std.proofs.lemmas.Grind.{common_steps}
 use Rattle.std.proofs.lemmas.List.{map-append}
 use Rattle.std.proofs.lemmas.Bool.Decides.{nat_tests}
-use Rattle.std.proofs.Common.{◌≡◌, ◌∙◌, ℕ, ◌+◌, ◌<◌, ◌≤◌, ◌||◌, Bool, true, false, nat_lt, max, map, filter, List, [], ◌∷◌, ◌++◌, Option, Some, None, refl, sym, ap, subst, arith}
-use Rattle.std.specs.Prelude.{unwrap_or}
+use Rattle.std.proofs.Common.{◌≡◌, ◌∙◌, ℕ, ◌+◌, ◌<◌, ◌≤◌, ◌^◌, ◌||◌, Bool, true, false, nat_lt, cond, max, min, map, filter, List, [], ◌∷◌, ◌++◌, Option, Some, None, refl, sym, ap, subst, arith}
+use Rattle.std.specs.Prelude.{IfSome, is_some, unwrap_or}
 use Rattle.std.specs.List.{before_first, list_any}
 use Rattle.rtps_ids.specs.declared.identity.Guid.{Guid}
 use Rattle.rtps_discovery.specs.declared.matching.Pair.{Pair}
@@ -57,7 +57,7 @@ gone_stops listener acts x old new unsent brings sent end are =
     let none : list_any test acts ≡ false = sym are.sent ∙ unsent in
     record {
       end = subst (spans.IsEndOf (newcomers.is_gone listener (acts ++ x ∷ []))) (sym end)
-      (end_same (newcomers.is_gone listener (acts ++ x ∷ [])) (newcomers.is_gone listener acts) old.end (λ n. ap (list_any (gaps n)) (before_first_at test acts x [] none brings ∙ sym (before_first_all test acts none))) are.end);
+          (end_same (newcomers.is_gone listener (acts ++ x ∷ [])) (newcomers.is_gone listener acts) old.end (λ n. ap (list_any (gaps n)) (before_first_at test acts x [] none brings ∙ sym (before_first_all test acts none))) are.end);
       sent = sent ∙ sym (any_one_more test acts x ∙ ap (λ b. b || test x) none ∙ brings);
     }
 
@@ -72,7 +72,7 @@ gone_more listener acts x old new gap unsent brings sent end gaps_end are =
     let grown : spans.IsEndOf (λ n. list_any (gaps n) acts || gaps n x) (max old.end gap) = end_max (λ n. list_any (gaps n) acts) (λ n. gaps n x) old.end gap so_far gaps_end in
     record {
       end = subst (spans.IsEndOf (newcomers.is_gone listener (acts ++ x ∷ []))) (sym end)
-      (end_same (newcomers.is_gone listener (acts ++ x ∷ [])) (λ n. list_any (gaps n) acts || gaps n x) (max old.end gap) (λ n. ap (list_any (gaps n)) (before_first_all test (acts ++ x ∷ []) none_more) ∙ any_one_more (gaps n) acts x) grown);
+          (end_same (newcomers.is_gone listener (acts ++ x ∷ [])) (λ n. list_any (gaps n) acts || gaps n x) (max old.end gap) (λ n. ap (list_any (gaps n)) (before_first_all test (acts ++ x ∷ []) none_more) ∙ any_one_more (gaps n) acts x) grown);
       sent = sent ∙ sym none_more;
     }
 
@@ -151,8 +151,30 @@ pub owed_at_first : (owing : Owing) (o : Option Newcomer) → ((newcomer : Newco
 owed_at_first owing None none = tt
 owed_at_first owing (Some newcomer) none = none newcomer
 
-pub joined_from : (from : ℕ) (whole : ℕ) (joined : Option Location) (pair : Pair) (intake : intake_spec.Intake) (here : Bool) (o : Option Newcomer) → whole ≡ from → newcomers.IsJoinedAs whole joined pair intake here o → newcomers.IsJoinedAs from joined pair intake here o
-joined_from from whole joined pair intake here o same is = subst (λ (n : ℕ). newcomers.IsJoinedAs n joined pair intake here o) same is
+-- a reader that joins here is a newcomer
+pub newcomer_here : (from : ℕ) (pair : Pair) (intake : intake_spec.Intake) (whole : Span) (place : Location) (volatile : Bool) → spans.IsWhole from pair intake whole → Some place ≡ spans.since_of whole → spans.IsVolatileIn intake pair.reader volatile
+    → newcomers.IsJoinedAs from whole.joined pair intake whole.is_joined_here (Some (record { pair = pair; place = place; from = whole.from; is_volatile = volatile }))
+newcomer_here from pair intake whole place volatile is since is_volatile =
+    (parts whole.is_joined_here whole.joined (since), record { pair_is = refl; from_is = is.first; is_volatile = is_volatile })
+  where
+    parts : (here : Bool) (joined : Option Location) → Some place ≡ cond here joined None → (here ≡ true) × (joined ≡ Some place)
+    parts true joined at = (refl, sym at)
+    parts false joined at = absurd (cc)
+
+-- another one is none
+pub no_newcomer : (from : ℕ) (pair : Pair) (intake : intake_spec.Intake) (whole : Span) → spans.IsWhole from pair intake whole → None ≡ spans.since_of whole → newcomers.IsJoinedAs from whole.joined pair intake whole.is_joined_here None
+no_newcomer from pair intake whole is since = by whole.is_joined_here whole.joined refl refl since
+  where
+    by : (here : Bool) (joined : Option Location) → whole.is_joined_here ≡ here → whole.joined ≡ joined → None ≡ cond here joined None → here ≡ false
+    by false joined at place none = refl
+    by true None at place none = sym at ∙ is.here ∙ ap (λ (o : Option Location). spans.is_joined_here o pair (placed.placed_in intake.acts)) place
+    by true (Some location) at place none = absurd (cc)
+
+pub positive_lesser : (brought asked : Option ℕ) (lo number : ℕ) (has : ℕ → Bool) → Some number ≡ spans.lesser_of brought asked → IfSome brought (λ n. (1 ≤ n) × (n < 2 ^ 63)) → 1 ≤ lo → spans.IsLeastFrom has lo asked → 1 ≤ number
+positive_lesser (Some one) (Some other) lo number has is (low, high) positive (least, has_it, rest) = let same : number ≡ min one other = (let e : Some number ≡ Some (min one other) = is in cc) in omega arith
+positive_lesser (Some one) None lo number has is (low, high) positive least = let same : number ≡ one = (let e : Some number ≡ Some one = is in cc) in omega arith
+positive_lesser None (Some other) lo number has is low positive (least, has_it, rest) = let same : number ≡ other = (let e : Some number ≡ Some other = is in cc) in omega arith
+positive_lesser None None lo number has is low positive least = absurd (let no : Some number ≡ None = is in cc)
 
 -- where there is no newcomer, the span is settled
 pub span_elsewhere : (from : ℕ) (pair : Pair) (intake : intake_spec.Intake) (acts : List placed.PlacedValue) (spanning : Spanning) → spanning.newcomer ≡ None → newcomers.IsSpanning from pair intake acts spanning → spans.IsSpan from pair intake spanning.span
@@ -210,3 +232,7 @@ spanning_more from pair intake acts more old newcomer owing some step is = recor
   newcomer = is.newcomer;
   owed = subst (newcomers.IsOwed more owing) (sym some) (step (subst (newcomers.IsOwed acts old.owing) some is.owed));
 }
+
+pub none_there : (o : Option Newcomer) → is_some o ≡ false → o ≡ None
+none_there None out = refl
+none_there (Some newcomer) out = absurd (let no : true ≡ false = out in cc)

@@ -47,7 +47,7 @@ pub(crate) struct Owing {
     /// Whether more was announced behind that: its datagram has acts that do not stand by their places. Then the least is another one.
     is_late: bool,
     ghost in_range: { announced < 2 ^ 63 },
-    ghost least_in_range: { ForSome least (λ number. number < 2 ^ 63) },
+    ghost least_in_range: { ForSome least (λ number. (1 ≤ number) × (number < 2 ^ 63)) },
 }
 
 /// The number that the writer announces by an act before a place, or 0.
@@ -220,7 +220,7 @@ impl Owing {
     pub(crate) fn brought(&self, acts: &[Placed<'_>], newcomer: &Newcomer) -> Option<u64>
         ensures least { newcomers.IsOwing newcomer.now (map placed_spec.placed_value acts.now) self.now
             → spans.IsLeastFrom (newcomers.is_brought (newcomers.listener_of newcomer.now) (map placed_spec.placed_value acts.now)) (newcomers.owed_to newcomer.now self.now) result }
-        ensures in_range { IfSome result (λ number. number < 2 ^ 63) }
+        ensures in_range { IfSome result (λ number. (1 ≤ number) × (number < 2 ^ 63)) }
     {
         if self.is_late {
             least_brought(acts, &newcomer.listener(), self.owed(newcomer))

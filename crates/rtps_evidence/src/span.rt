@@ -245,20 +245,20 @@ impl Span {
     }
 }
 
-/// The newcomer that the reader of a pair is, where this is its whole recording; None where it does not join in that.
+/// The reader of a pair, of which this is the whole recording; None where it does not join in that.
 fn newcomer_of(index: &Index<'_>, pair: Pair, whole: &Span) -> Option<Newcomer>
-    ensures { (intake : intake.Intake) → index_spec.IsIndexBy intake index.now → newcomers.IsJoinedAs whole.now.from whole.now.joined pair intake whole.now.is_joined_here result }
+    ensures { (from : ℕ) (intake : intake.Intake) → index_spec.IsIndexBy intake index.now → spans.IsWhole from pair intake whole.now
+        → newcomers.IsJoinedAs from whole.now.joined pair intake whole.now.is_joined_here result }
 {
-    if !whole.is_joined_here {
-        return None;
+    match whole.since() {
+        Some(place) => Some(Newcomer {
+            pair,
+            place,
+            from: whole.from,
+            is_volatile: is_volatile(index, pair.reader),
+        }),
+        None => None,
     }
-    let place = whole.joined?;
-    Some(Newcomer {
-        pair,
-        place,
-        from: whole.from,
-        is_volatile: is_volatile(index, pair.reader),
-    })
 }
 
 impl Spanning {

@@ -7,4 +7,4 @@ use Rattle.rtps_evidence.proofs.span.Span.of.Given as goal
 
 -- by the acts so far
 abbrev pub invariant-loop-placed : goal.invariant-loop-placed
-invariant-loop-placed l = (intake : intake_spec.Intake) → index_spec.IsIndexBy intake l.index → newcomers.IsSpanning l.fn.from l.fn.pair intake (map placed.placed_value (take l.placed-index l.x)) l.spanning
+invariant-loop-placed l = (intake : intake_spec.Intake) → index_spec.IsIndexBy intake l.index → newcomers.IsSpanning l.fn.from l.fn.pair intake (map placed.placed_value (take l.placed-index l.placed-items)) l.spanning
