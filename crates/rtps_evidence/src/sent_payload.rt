@@ -1,4 +1,4 @@
-ghost use Rattle.std.specs.Prelude.{◌≡◌, IfOk, map};
+ghost use Rattle.std.specs.Prelude.{◌≡◌, ◌++◌, ◌∷◌, [], IfOk, List, map};
 ghost use Rattle.std.specs.List.{find};
 ghost use Rattle.std.specs.Option.{option_map};
 ghost use Rattle.rtps_wire.specs.Values as values;
@@ -71,19 +71,40 @@ fn is_same(one: Payload<'_>, other: Payload<'_>) -> bool
     }
 }
 
+/// The first payload for the number, with one act more.
+pub(crate) fn sent_with<'a>(
+    found: Option<Sent<'a>>,
+    placed: &Placed<'a>,
+    pair: Pair,
+    number: u64,
+) -> Option<Sent<'a>>
+    ensures { (acts : List placed_spec.PlacedValue) → option_map locations.sent_value found.entry ≡ locations.first_sent pair.writer pair.reader number acts
+        → option_map locations.sent_value result ≡ locations.first_sent pair.writer pair.reader number (acts ++ placed_spec.placed_value placed.now ∷ []) }
+{
+    if found.is_some() {
+        return found;
+    }
+    match payload_for(placed, pair, number) {
+        Some(payload) => Some(Sent {
+            payload,
+            place: location_of(placed),
+        }),
+        None => found,
+    }
+}
+
 /// The first payload for the number by these acts.
 pub(crate) fn first_sent<'a>(acts: &[Placed<'a>], pair: Pair, number: u64) -> Option<Sent<'a>>
     ensures { option_map locations.sent_value result ≡ locations.first_sent pair.writer pair.reader number (map placed_spec.placed_value acts.now) }
 {
+    let mut found = None;
     for placed in acts {
-        if let Some(payload) = payload_for(placed, pair, number) {
-            return Some(Sent {
-                payload,
-                place: location_of(placed),
-            });
+        found = sent_with(found, placed, pair, number);
+        if found.is_some() {
+            return found;
         }
     }
-    None
+    found
 }
 
 /// The first payload for the number by these acts that is another one than this.

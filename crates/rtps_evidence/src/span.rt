@@ -87,6 +87,20 @@ fn asked_from(placed: &Placed<'_>, pair: Pair, lo: u64) -> Option<u64>
     }
 }
 
+/// The least number from `lo` on that the pair's reader asks its writer for, with one act more of the reader.
+pub(crate) fn asked_with(
+    least: Option<u64>,
+    placed: &Placed<'_>,
+    pair: Pair,
+    lo: u64,
+) -> Option<u64>
+    ensures least { (acts : List placed_spec.PlacedValue) → spans.IsLeastFrom (λ n. list_any (missed.asks_for pair.writer pair.reader n) acts) lo least
+        → spans.IsLeastFrom (λ n. list_any (missed.asks_for pair.writer pair.reader n) (acts ++ placed_spec.placed_value placed.now ∷ [])) lo result }
+    ensures in_range { IfSome least (λ number. number < 2 ^ 63) → IfSome result (λ number. number < 2 ^ 63) }
+{
+    lesser(least, asked_from(placed, pair, lo))
+}
+
 /// The least number from `lo` on that the pair's reader asks its writer for by one of these acts.
 fn least_asked(acts: &[Placed<'_>], pair: Pair, lo: u64) -> Option<u64>
     ensures least { spans.IsLeastFrom (λ n. list_any (missed.asks_for pair.writer pair.reader n) (map placed_spec.placed_value acts.now)) lo result }
@@ -94,7 +108,7 @@ fn least_asked(acts: &[Placed<'_>], pair: Pair, lo: u64) -> Option<u64>
 {
     let mut least = None;
     for placed in acts {
-        least = lesser(least, asked_from(placed, pair, lo));
+        least = asked_with(least, placed, pair, lo);
     }
     least
 }
@@ -139,23 +153,44 @@ fn first_owed(index: &Index<'_>, newcomer: &Newcomer, owing: &Owing) -> u64
     }
 }
 
-/// The datagram of the first of these acts, behind the place where the reader joins, that says that it leaves.
-fn left_among(acts: &[Placed<'_>], reader: Guid, place: Location) -> Option<u64>
-    ensures { result ≡ option_map (λ placed. placed.datagram) (find (spans.leaves_behind place reader) (map placed_spec.placed_value acts.now)) }
-{
-    for placed in acts {
-        if leaves_behind(placed, reader, place) {
-            return Some(placed.datagram as u64);
-        }
-    }
-    None
-}
-
 /// Whether an act behind the place where the reader joins says that it leaves.
 fn leaves_behind(placed: &Placed<'_>, reader: Guid, place: Location) -> bool
     ensures { result ≡ spans.leaves_behind place reader (placed_spec.placed_value placed.now) }
 {
     is_behind(Some(place), placed) && leaves(&placed.act, reader)
+}
+
+/// The datagram of the first act, behind the place where the reader joins, that says that it leaves, with one act more.
+pub(crate) fn left_with(
+    left: Option<u64>,
+    placed: &Placed<'_>,
+    reader: Guid,
+    place: Location,
+) -> Option<u64>
+    ensures { (acts : List placed_spec.PlacedValue) → left ≡ option_map (λ placed. placed.datagram) (find (spans.leaves_behind place reader) acts)
+        → result ≡ option_map (λ placed. placed.datagram) (find (spans.leaves_behind place reader) (acts ++ placed_spec.placed_value placed.now ∷ [])) }
+{
+    if left.is_some() {
+        return left;
+    }
+    if leaves_behind(placed, reader, place) {
+        return Some(placed.datagram as u64);
+    }
+    left
+}
+
+/// The datagram of the first of these acts, behind the place where the reader joins, that says that it leaves.
+fn left_among(acts: &[Placed<'_>], reader: Guid, place: Location) -> Option<u64>
+    ensures { result ≡ option_map (λ placed. placed.datagram) (find (spans.leaves_behind place reader) (map placed_spec.placed_value acts.now)) }
+{
+    let mut left = None;
+    for placed in acts {
+        left = left_with(left, placed, reader, place);
+        if left.is_some() {
+            return left;
+        }
+    }
+    left
 }
 
 /// The datagram in which a reader, or a participant, that joins at a place leaves; None where it does not.

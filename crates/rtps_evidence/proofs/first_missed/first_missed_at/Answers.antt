@@ -16,16 +16,8 @@ returns-in_default c = λ recording is.
     ∙ ap (λ (l : List placed.PlacedValue). option_map locations.location_of (locations.find_last (missed.asks_for pair.writer pair.reader c.args.number) l)) is.asks
     ∙ ap (option_map locations.location_of) (last_asking_same pair.writer pair.reader c.args.number all))
 
+pub loop-placed-preserved : goal.loop-placed-preserved
+loop-placed-preserved c = ?
+
 pub returns : goal.returns
-returns c = λ recording is.
-    let pair = c.args.exchange.now.pair in
-    let n = c.args.number in
-    let asked = c.in-Some.asked in
-    let all = placed.placed_in recording in
-    asked_last pair.writer pair.reader n all (locations.find_last (missed.asks_for pair.writer pair.reader n) all) asked c.first_again.result c.first_gone_behind.result c.is_sent.result
-    (c.in-Some.ensures
-    ∙ ap (λ (l : List placed.PlacedValue). option_map locations.location_of (locations.find_last (missed.asks_for pair.writer pair.reader n) l)) is.asks
-    ∙ ap (option_map locations.location_of) (last_asking_same pair.writer pair.reader n all))
-    (c.first_again.ensures ∙ ap (missed.again_behind asked pair.writer pair.reader n) is.acts ∙ again_same asked pair.writer pair.reader n all)
-    (c.first_gone_behind.ensures ∙ ap (missed.gone_behind asked pair.writer pair.reader n) is.acts ∙ gone_same_behind asked pair.writer pair.reader n all)
-    (c.is_sent.ensures ∙ ap (list_any (missed.brings pair.writer pair.reader n)) is.acts ∙ sent_same pair.writer pair.reader n all)
+returns c = ?
