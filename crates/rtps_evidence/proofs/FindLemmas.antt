@@ -69,14 +69,30 @@ any_found v test xs i x lt at is =
     always true = refl
     always false = refl
 
+-- whether one passes, with one element more
+pub any_one_more : {X : Type 0} (test : X → Bool) (xs : List X) (x : X) → list_any test (xs ++ x ∷ []) ≡ (list_any test xs || test x)
+any_one_more test xs x = list_any-append test xs (x ∷ []) ∙ ap (λ b. list_any test xs || b) (or_no (test x))
+  where
+    or_no : (b : Bool) → (b || false) ≡ b
+    or_no true = refl
+    or_no false = refl
+
 -- ---- what is made of the first that passes, with one element more
 
-pub first_kept : {X Y : Type 0} (make : X → Y) (test : X → Bool) (xs : List X) (x : X) (found : Option Y) → is_some found ≡ true → found ≡ option_map make (find test xs) → found ≡ option_map make (find test (xs ++ x ∷ []))
-first_kept make test xs x found there is = by (find test xs) refl is
+pub some_mapped : {X Y : Type 0} (make : X → Y) (o : Option X) → is_some (option_map make o) ≡ is_some o
+some_mapped make None = refl
+some_mapped make (Some x) = refl
+
+-- once it is found, it stays
+pub first_stays : {X Y : Type 0} (make : X → Y) (test : X → Bool) (xs ys : List X) (found : Option Y) → is_some found ≡ true → found ≡ option_map make (find test xs) → found ≡ option_map make (find test (xs ++ ys))
+first_stays make test xs ys found there is = by (find test xs) refl is
   where
-    by : (o : Option _) → find test xs ≡ o → found ≡ option_map make o → found ≡ option_map make (find test (xs ++ x ∷ []))
+    by : (o : Option _) → find test xs ≡ o → found ≡ option_map make o → found ≡ option_map make (find test (xs ++ ys))
     by None at is = absurd (let no : false ≡ true = ap is_some (sym is) ∙ there in cc)
-    by (Some y) at is = is ∙ sym (ap (option_map make) (find-append test xs (x ∷ []) ∙ ap (λ o. option_or o (find test (x ∷ []))) at))
+    by (Some y) at is = is ∙ sym (ap (option_map make) (find-append test xs ys ∙ ap (λ o. option_or o (find test ys)) at))
+
+pub first_kept : {X Y : Type 0} (make : X → Y) (test : X → Bool) (xs : List X) (x : X) (found : Option Y) → is_some found ≡ true → found ≡ option_map make (find test xs) → found ≡ option_map make (find test (xs ++ x ∷ []))
+first_kept make test xs x found there is = first_stays make test xs (x ∷ []) found there is
 
 pub first_passed : {X Y : Type 0} (make : X → Y) (test : X → Bool) (xs : List X) (x : X) (found : Option Y) → test x ≡ false → found ≡ option_map make (find test xs) → found ≡ option_map make (find test (xs ++ x ∷ []))
 first_passed make test xs x found out is = is ∙ ap (option_map make) (sym (find-append test xs (x ∷ []) ∙ ap (λ b. option_or (find test xs) (cond b (Some x) None)) out ∙ or_none (find test xs)))
@@ -88,16 +104,12 @@ first_noted make test xs x found none passes is = by (find test xs) refl is
     by None at is = sym (ap (option_map make) (find-append test xs (x ∷ []) ∙ ap (λ o. option_or o (find test (x ∷ []))) at ∙ ap (λ b. cond b (Some x) None) passes))
     by (Some y) at is = absurd (let no : true ≡ false = ap is_some (sym is) ∙ none in cc)
 
--- once it is found, it stays
-pub first_settled : {X Y Z : Type 0} (make : Y → Z) (v : X → Y) (test : Y → Bool) (xs : List X) (i : ℕ) (found : Option Z) → is_some found ≡ true → found ≡ option_map make (find test (map v (take i xs))) → found ≡ option_map make (find test (map v xs))
-first_settled make v test xs i found there is = by (find test (map v (take i xs))) refl is
-  where
-    all : find test (map v xs) ≡ option_or (find test (map v (take i xs))) (find test (map v (drop i xs)))
-    all = ap (λ l. find test (map v l)) (sym (take-append-drop i xs)) ∙ ap (find test) (map-append v (take i xs) (drop i xs)) ∙ find-append test (map v (take i xs)) (map v (drop i xs))
+-- the elements up to a place, and those behind it
+pub whole_taken : {X Y : Type 0} (v : X → Y) (xs : List X) (i : ℕ) → map v (take i xs) ++ map v (drop i xs) ≡ map v xs
+whole_taken v xs i = sym (map-append v (take i xs) (drop i xs)) ∙ ap (map v) (take-append-drop i xs)
 
-    by : (o : Option _) → find test (map v (take i xs)) ≡ o → found ≡ option_map make o → found ≡ option_map make (find test (map v xs))
-    by None at is = absurd (let no : false ≡ true = ap is_some (sym is) ∙ there in cc)
-    by (Some y) at is = is ∙ sym (ap (option_map make) (all ∙ ap (λ o. option_or o (find test (map v (drop i xs)))) at))
+pub first_settled : {X Y Z : Type 0} (make : Y → Z) (v : X → Y) (test : Y → Bool) (xs : List X) (i : ℕ) (found : Option Z) → is_some found ≡ true → found ≡ option_map make (find test (map v (take i xs))) → found ≡ option_map make (find test (map v xs))
+first_settled make v test xs i found there is = first_stays make test (map v (take i xs)) (map v (drop i xs)) found there is ∙ ap (λ l. option_map make (find test l)) (whole_taken v xs i)
 
 -- ---- the greatest of what is made of each
 

@@ -2,6 +2,7 @@ pub mod AmountLemmas
 pub mod FirstNumbersLemmas
 pub mod FindLemmas
 pub mod MadeLemmas
+pub mod PayloadLemmas
 pub mod OriginLemmas
 pub mod Shown
 pub mod RowLemmas

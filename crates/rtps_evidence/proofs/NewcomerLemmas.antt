@@ -20,7 +20,8 @@ use Rattle.rtps_evidence.specs.declared.newcomer.Newcomer.{Newcomer}
 use Rattle.rtps_evidence.specs.declared.newcomer.Owing.{Owing}
 use Rattle.rtps_evidence.specs.declared.span.Span.{Span}
 use Rattle.rtps_evidence.specs.declared.span.Spanning.{Spanning}
-use Rattle.rtps_evidence.proofs.SpanLemmas.{any_one_more, before_first_all, before_first_at, end_max, end_same, first_past, first_stops, for_reader, least_either, least_same, owed_here}
+use Rattle.rtps_evidence.proofs.FindLemmas.{any_one_more}
+use Rattle.rtps_evidence.proofs.SpanLemmas.{before_first_all, before_first_at, end_max, end_same, first_past, first_stops, for_reader, least_either, least_same, owed_here}
 
 announced_more : (place : Location) (writer : Guid) (acts : List placed.PlacedValue) (x : placed.PlacedValue) → spans.announced_before place writer (acts ++ x ∷ []) ≡ max (spans.announced_before place writer acts) (spans.number_before place writer x)
 announced_more place writer acts x = grind (arith, nat_tests, common_steps, map-append, greatest-append)

@@ -27,7 +27,7 @@ use Rattle.rtps_evidence.specs.Missed as missed
 use Rattle.rtps_evidence.specs.Spans as spans
 use Rattle.rtps_evidence.specs.declared.location.Location.{Location}
 use Rattle.rtps_evidence.proofs.MissedLemmas.{brought_same}
-use Rattle.rtps_evidence.proofs.FindLemmas.{any_filter}
+use Rattle.rtps_evidence.proofs.FindLemmas.{any_filter, any_one_more}
 use Rattle.rtps_evidence.proofs.PlacedOrder.{AreOrdered}
 
 -- ---- the least number that has it
@@ -51,12 +51,6 @@ pub least_more : {X Y : Type 0} (v : X → Y) (test : ℕ → Y → Bool) (xs : 
     → spans.IsLeastFrom (λ n. list_any (test n) (map v (take i xs))) lo one → spans.IsLeastFrom (λ n. test n (v x)) lo other → found ≡ spans.lesser_of one other
     → spans.IsLeastFrom (λ n. list_any (test n) (map v (take (i + 1) xs))) lo found
 least_more v test xs i x lo one other found lt at so_far here is = grind (arith, nat_tests, common_steps)
-
-or_no : (b : Bool) → (b || false) ≡ b
-or_no b = grind (arith, nat_tests)
-
-pub any_one_more : (test : placed_spec.PlacedValue → Bool) (xs : List placed_spec.PlacedValue) (x : placed_spec.PlacedValue) → list_any test (xs ++ x ∷ []) ≡ (list_any test xs || test x)
-any_one_more test xs x = list_any-append test xs (x ∷ []) ∙ ap (λ b. list_any test xs || b) (or_no (test x))
 
 -- with one act more
 pub least_told : (test : ℕ → placed_spec.PlacedValue → Bool) (acts : List placed_spec.PlacedValue) (x : placed_spec.PlacedValue) (lo : ℕ) (one other found : Option ℕ) → spans.IsLeastFrom (λ n. list_any (test n) acts) lo one → spans.IsLeastFrom (λ n. test n x) lo other

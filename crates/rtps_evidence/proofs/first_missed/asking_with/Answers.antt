@@ -1,7 +1,7 @@
 use Rattle.std.proofs.Common.{◌∙◌, Some, ap, sym}
 use Rattle.rtps_audit.specs.Placed as placed
 use Rattle.rtps_evidence.specs.Missed as missed
-use Rattle.rtps_evidence.proofs.QuestionLemmas.{last_noted, last_passed}
+use Rattle.rtps_evidence.proofs.RequestLemmas.{last_noted, last_passed}
 use Rattle.rtps_evidence.proofs.first_missed.asking_with.Goals as goal
 
 pub returns-then-asks : goal.returns-then-asks
