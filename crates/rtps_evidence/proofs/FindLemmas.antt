@@ -113,6 +113,9 @@ first_settled make v test xs i found there is = first_stays make test (map v (ta
 
 -- ---- the greatest of what is made of each
 
+pub greatest_more : {X : Type 0} (number : X → ℕ) (xs : List X) (x : X) → delivery.greatest (map number (xs ++ x ∷ [])) ≡ max (delivery.greatest (map number xs)) (number x)
+greatest_more number xs x = grind (arith, nat_tests, common_steps, map-append, greatest-append)
+
 pub greatest_past : {X Y : Type 0} (v : X → Y) (number : Y → ℕ) (xs : List X) (i : ℕ) (x : X) → i < length xs → x ≡ get_or xs i x → delivery.greatest (map number (map v (take (i + 1) xs))) ≡ max (delivery.greatest (map number (map v (take i xs)))) (number (v x))
 greatest_past v number xs i x lt at = grind (arith, nat_tests, common_steps, take_more, map-append, greatest-append)
 

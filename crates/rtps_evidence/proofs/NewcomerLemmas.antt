@@ -1,6 +1,4 @@
 -- From which number on a writer owes to a newcomer, with one act more.
-use Rattle.std.proofs.lemmas.Grind.{common_steps}
-use Rattle.std.proofs.lemmas.List.{map-append}
 use Rattle.std.proofs.lemmas.Bool.Decides.{nat_tests}
 use Rattle.std.proofs.Common.{◌≡◌, ◌∙◌, ℕ, ◌+◌, ◌<◌, ◌≤◌, ◌^◌, ◌||◌, Bool, true, false, nat_lt, cond, max, min, map, filter, List, [], ◌∷◌, ◌++◌, Option, Some, None, refl, sym, ap, subst, arith}
 use Rattle.std.specs.Prelude.{IfSome, is_some, unwrap_or}
@@ -9,7 +7,6 @@ use Rattle.rtps_ids.specs.declared.identity.Guid.{Guid}
 use Rattle.rtps_discovery.specs.declared.matching.Pair.{Pair}
 use Rattle.rtps_audit.specs.Intake as intake_spec
 use Rattle.rtps_audit.specs.Placed as placed
-use Rattle.rtps_audit.proofs.Offered.{greatest-append}
 use Rattle.rtps_evidence.specs.Missed as missed
 use Rattle.rtps_evidence.specs.Newcomers as newcomers
 use Rattle.rtps_evidence.specs.Spans as spans
@@ -20,11 +17,8 @@ use Rattle.rtps_evidence.specs.declared.newcomer.Newcomer.{Newcomer}
 use Rattle.rtps_evidence.specs.declared.newcomer.Owing.{Owing}
 use Rattle.rtps_evidence.specs.declared.span.Span.{Span}
 use Rattle.rtps_evidence.specs.declared.span.Spanning.{Spanning}
-use Rattle.rtps_evidence.proofs.FindLemmas.{any_one_more}
+use Rattle.rtps_evidence.proofs.FindLemmas.{any_one_more, greatest_more}
 use Rattle.rtps_evidence.proofs.SpanLemmas.{before_first_all, before_first_at, end_max, end_same, first_past, first_stops, for_reader, least_either, least_same, owed_here}
-
-announced_more : (place : Location) (writer : Guid) (acts : List placed.PlacedValue) (x : placed.PlacedValue) → spans.announced_before place writer (acts ++ x ∷ []) ≡ max (spans.announced_before place writer acts) (spans.number_before place writer x)
-announced_more place writer acts x = grind (arith, nat_tests, common_steps, map-append, greatest-append)
 
 -- ---- what is told gone first
 
@@ -102,7 +96,7 @@ owing_more newcomer acts x old new listener brought same are announced gone rise
     let higher : newcomers.owed_to newcomer old ≤ owed = owed_rises newcomer.from newcomer.is_volatile old.announced new.announced old.gone.end new.gone.end (omega arith) rises in
     let least_here : spans.IsLeastFrom (λ n. test n x) owed brought = subst (λ (l : Listener). spans.IsLeastFrom (λ n. missed.brings_behind l.since l.pair.writer l.pair.reader n x) owed brought) same least_is in
     record {
-      announced = announced ∙ ap (λ a. max a (spans.number_before newcomer.place newcomer.pair.writer x)) are.announced ∙ sym (announced_more newcomer.place newcomer.pair.writer acts x);
+      announced = announced ∙ ap (λ a. max a (spans.number_before newcomer.place newcomer.pair.writer x)) are.announced ∙ sym (greatest_more (spans.number_before newcomer.place newcomer.pair.writer) acts x);
       gone = subst (λ l. newcomers.AreGone l (acts ++ x ∷ []) new.gone) same (gone (subst (λ l. newcomers.AreGone l acts old.gone) (sym same) are.gone));
       least = λ timely.
           let both = sym late ∙ timely in
