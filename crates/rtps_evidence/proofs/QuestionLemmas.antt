@@ -28,21 +28,7 @@ last_is : {X : Type 0} (o : Option X) (xs : List X) (x : X) → last_or o (xs ++
 last_is o [] x = refl
 last_is o (y ∷ xs) x = last_is (Some y) xs x
 
--- ---- those that pass, with one element more
-
-filter_past : {X Y : Type 0} (v : X → Y) (test : Y → Bool) (xs : List X) (i : ℕ) (x : X) → i < length xs → x ≡ get_or xs i x → (b : Bool) → test (v x) ≡ b
-    → filter test (map v (take (i + 1) xs)) ≡ filter test (map v (take i xs)) ++ cond b (v x ∷ []) []
-filter_past v test xs i x lt at b is = grind (arith, nat_tests, common_steps)
-
--- of the first `i` acts, the last that passes stands there
-pub last_passing : (test : placed_spec.PlacedValue → Bool) (acts : List Placed) (i : ℕ) (x : Placed) (place : Location) → i < length acts → x ≡ get_or acts i x → test (placed_spec.placed_value x) ≡ true → place ≡ locations.location_of (placed_spec.placed_value x)
-    → Some place ≡ option_map locations.location_of (last_or None (filter test (map placed_spec.placed_value (take (i + 1) acts))))
-last_passing test acts i x place lt at is stands = grind (arith, nat_tests, common_steps, filter_past, last_is)
-
-pub last_failing : (test : placed_spec.PlacedValue → Bool) (acts : List Placed) (i : ℕ) (x : Placed) (last : Option Location) → i < length acts → x ≡ get_or acts i x → test (placed_spec.placed_value x) ≡ false
-    → last ≡ option_map locations.location_of (last_or None (filter test (map placed_spec.placed_value (take i acts)))) → last ≡ option_map locations.location_of (last_or None (filter test (map placed_spec.placed_value (take (i + 1) acts))))
-last_failing test acts i x last lt at is so_far = grind (arith, nat_tests, common_steps)
-
+-- where the last answer stands, with one more
 pub last_place_more : (answers : List Answer) (i : ℕ) (d : Answer) (place : Location) → i < length answers → place ≡ questions_spec.place_of (get_or answers i d) → Some place ≡ option_map questions_spec.place_of (last_or None (take (i + 1) answers))
 last_place_more answers i d place lt is = grind (arith, nat_tests, common_steps, take_more, last_is)
 

@@ -11,6 +11,7 @@ pub mod CountedAnswers
 pub mod LastAsks
 pub mod Requests
 pub mod Spans
+pub mod Newcomers
 pub mod Outcomes
 pub mod UnansweredLaw
 pub mod GoneRanges

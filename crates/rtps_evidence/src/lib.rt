@@ -36,6 +36,7 @@ mod location;
 mod lost_answers;
 mod missed;
 mod missed_numbers;
+mod newcomer;
 mod not_received;
 mod other_side;
 mod outcome;
