@@ -56,9 +56,7 @@ impl<'s, 'a> Case<'s, 'a> {
         let Hearer { brief, heard, .. } = hearer;
         let exchange = &brief.exchange;
         let asked = heard.announced.asked(exchange.span.from);
-        let mut numbers = heard
-            .numbers
-            .lacking(alloc, exchange.said.answers, &asked)?;
+        let mut numbers = heard.numbers.lacking(alloc, exchange.said.answers, &asked)?;
         let lacking = rising(alloc, &mut numbers)?;
         let ledger = Ledger::new(alloc, exchange, &lacking)?;
         Ok(Case {

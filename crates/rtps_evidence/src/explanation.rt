@@ -90,12 +90,7 @@ fn explanation_of<'a>(
 
 impl<'a> ExplainedRows<'a> {
     /// Adds the row of one pair more. After `Memory` they are of no use.
-    fn add(
-        &mut self,
-        directory: &Directory<'a>,
-        pair: Pair,
-        found: Found<'a>,
-    ) -> Result<(), Memory>
+    fn add(&mut self, directory: &Directory<'a>, pair: Pair, found: Found<'a>) -> Result<(), Memory>
         ensures { OnOk result ((setting : together.Setting) (pairs : List PairValue) → directory_spec.IsMapOf (intake.acts_together setting.intake.announcing) directory.now
             → together.AreRows setting pairs self.old → together.IsFound setting pair found.entry → together.AreRows setting (pairs ++ pair ∷ []) self.new) }
     {

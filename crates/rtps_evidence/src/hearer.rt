@@ -53,8 +53,7 @@ impl Ear for Hearer<'_, '_> {
     ghost has_heard = { cases.HasHeard };
 
     fn hear(&mut self, placed: &Placed<'_>) -> Result<(), Memory> {
-        self.heard
-            .hear(placed, &self.brief.exchange, &self.claims)
+        self.heard.hear(placed, &self.brief.exchange, &self.claims)
     }
 
     ghost begins = { λ hearer. record { brief = refl; heard = λ few is. is } };
