@@ -9,7 +9,7 @@ use Rattle.rtps_ids.specs.declared.identity.Guid.{Guid}
 use Rattle.rtps_wire.specs.Values as wire_values
 use Rattle.rtps_audit.specs.Placed as placed
 use Rattle.rtps_evidence.specs.Locations as locations
-use Rattle.rtps_evidence.proofs.FindLemmas.{first_noted, first_passed, first_stays}
+use Rattle.rtps_evidence.proofs.FindLemmas.{first_passed, first_stays}
 
 -- a payload is the same as itself
 same_self : (p : wire_values.PayloadValue) → locations.is_same p p ≡ true

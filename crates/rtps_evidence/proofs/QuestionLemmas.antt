@@ -1,6 +1,6 @@
 -- The last element that passes, and where the last answer stands; how often the reader was asked since then, one act more at a time.
 use Rattle.std.proofs.lemmas.Grind.{common_steps}
-use Rattle.std.proofs.Common.{◌≡◌, ◌∙◌, ℕ, ◌+◌, ◌-◌, ◌^◌, ◌<◌, ◌≤◌, ◌&&◌, Bool, true, false, cond, List, [], ◌∷◌, ◌++◌, filter, get_or, length, map, min, take, Option, Some, None, refl, sym, ap, subst, arith, pos}
+use Rattle.std.proofs.Common.{◌≡◌, ◌∙◌, ℕ, ◌+◌, ◌-◌, ◌^◌, ◌<◌, ◌≤◌, ◌&&◌, Bool, true, false, cond, List, [], ◌∷◌, ◌++◌, filter, get_or, length, min, take, Option, Some, None, refl, sym, ap, subst, arith, pos}
 use Rattle.std.specs.Prelude.{is_some, if◌then◌else◌, slice_get, unwrap_or}
 use Rattle.std.specs.List.{cons_option, find, last_or}
 use Rattle.std.specs.Option.{option_map, option_or}
@@ -16,7 +16,6 @@ use Rattle.rtps_receiver.specs.Values as values
 use Rattle.rtps_audit.specs.Placed as placed_spec
 use Rattle.rtps_audit.specs.Speech as audit_speech
 use Rattle.rtps_audit.specs.declared.answer.Answer.{Answer}
-use Rattle.rtps_audit.specs.declared.placed.Placed.{Placed}
 use Rattle.rtps_audit.proofs.Offered.{speaker_is_origin}
 use Rattle.rtps_evidence.specs.Locations as locations
 use Rattle.rtps_evidence.specs.Questions as questions_spec

@@ -1,6 +1,5 @@
 use Rattle.std.proofs.Common.{◌≡◌, map, take}
 use Rattle.rtps_audit.specs.Placed as placed
-use Rattle.rtps_evidence.specs.Locations as locations
 use Rattle.rtps_evidence.specs.Received as received
 use Rattle.rtps_evidence.proofs.not_received.first_gone.Given as goal
 

@@ -1,4 +1,4 @@
-use Rattle.std.proofs.Common.{◌≡◌, ◌∙◌, ℕ, ap, arith, max, sym}
+use Rattle.std.proofs.Common.{◌∙◌, ℕ, ap, max, sym}
 use Rattle.rtps_audit.specs.Placed as placed
 use Rattle.rtps_evidence.specs.Recorded as recorded
 use Rattle.rtps_evidence.proofs.FindLemmas.{greatest_more}

@@ -1,8 +1,6 @@
-use Rattle.std.proofs.Common.{◌∷◌, ◌++◌, ◌∙◌, ◌||◌, [], ℕ, List, subst, sym}
-use Rattle.std.specs.List.{list_any}
+use Rattle.std.proofs.Common.{ℕ}
 use Rattle.rtps_audit.specs.Placed as placed
 use Rattle.rtps_evidence.specs.Missed as missed
-use Rattle.rtps_evidence.specs.Spans as spans
 use Rattle.rtps_evidence.proofs.SpanLemmas.{least_told, lesser_below}
 use Rattle.rtps_evidence.proofs.span.asked_with.Goals as goal
 

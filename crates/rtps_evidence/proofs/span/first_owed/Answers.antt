@@ -1,4 +1,4 @@
-use Rattle.std.proofs.Common.{◌≡◌, ◌∙◌, refl, subst, sym, List, Some, None}
+use Rattle.std.proofs.Common.{◌∙◌, refl, subst, sym, List, Some, None}
 use Rattle.std.specs.List.{list_any}
 use Rattle.rtps_audit.specs.Placed as placed
 use Rattle.rtps_evidence.specs.Missed as missed

@@ -1,4 +1,4 @@
-use Rattle.std.proofs.Common.{◌≡◌, ◌∙◌, ◌++◌, ◌∷◌, [], Some, None, ap, not, refl, subst, sym}
+use Rattle.std.proofs.Common.{◌∙◌, ◌++◌, ◌∷◌, [], Some, None, ap, not, refl, subst, sym}
 use Rattle.std.specs.Option.{option_map}
 use Rattle.rtps_audit.specs.Placed as placed
 use Rattle.rtps_wire.specs.Values as values

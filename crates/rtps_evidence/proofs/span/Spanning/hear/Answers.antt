@@ -1,4 +1,4 @@
-use Rattle.std.proofs.Common.{◌++◌, ◌∷◌, [], sym}
+use Rattle.std.proofs.Common.{◌++◌, ◌∷◌, []}
 use Rattle.rtps_audit.specs.Placed as placed
 use Rattle.rtps_evidence.proofs.NewcomerLemmas.{spanning_more, spanning_still}
 use Rattle.rtps_evidence.proofs.span.Spanning.hear.Goals as goal

@@ -1,4 +1,4 @@
-use Rattle.std.proofs.Common.{◌≡◌, ◌∙◌, ap, sym, Option, Some, None, ℕ, ◌∷◌}
+use Rattle.std.proofs.Common.{◌≡◌, ◌∙◌, ap, sym, Option}
 use Rattle.rtps_audit.specs.Placed as placed
 use Rattle.rtps_evidence.specs.Spans as spans
 use Rattle.rtps_evidence.specs.declared.location.Location.{Location}
