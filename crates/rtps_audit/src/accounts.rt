@@ -46,7 +46,7 @@ fn end_before(acts: &[Placed<'_>], start: usize, datagram: usize) -> usize
 }
 
 impl<C: Coverage> Accounts<C> {
-    ghost use Rattle.std.specs.Prelude.{ℕ, ◌≡◌, ◌≤◌, ◌<◌, ◌++◌, ◌∷◌, [], true, length, map, slice_index_or, List, IfOk, OnOk};
+    ghost use Rattle.std.specs.Prelude.{ℕ, ◌≡◌, ◌≤◌, ◌<◌, ◌-◌, ◌^◌, ◌++◌, ◌∷◌, [], false, true, length, map, slice_index_or, List, IfOk, OnOk};
     ghost use Rattle.std.specs.List.{All};
     ghost use Rattle.std.specs.List.Sorted.{IsNonDecreasingBy};
     ghost use Rattle.rtps_ids.specs.declared.identity.Guid.{Guid as GuidValue};
@@ -102,14 +102,9 @@ impl<C: Coverage> Accounts<C> {
         Ok(again)
     }
 
-    /// Takes in the next act of the writer. After `Memory` the accounts are of no use.
-    pub fn hear(&mut self, act: &Spoken<'_>) -> Result<(), Memory>
-        ensures taken { OnOk result (account.TakesIn C.covered (values.spoken_value act.now) self.old self.new) }
-        ensures counted { OnOk result (length self.new.accounts.items ≡ length self.old.accounts.items) }
-        ensures stand { OnOk result ((from datagram : ℕ) (writer : GuidValue) (pairs : List PairValue) (placed : List placed_spec.PlacedValue) (asks : List AskValue)
-            → placed_spec.is_from writer (record { datagram = datagram; act = values.spoken_value act.now }) ≡ true → All (λ ask. ask.answer.datagram ≤ datagram) asks
-            → account.AllStand C.covered from writer pairs placed asks self.old
-            → account.AllStand C.covered from writer pairs (placed ++ record { datagram = datagram; act = values.spoken_value act.now } ∷ []) asks self.new) }
+    /// Tells the readers the next act of the writer, and keeps what of it is for all of them. After `Memory` the accounts are of no use.
+    fn take(&mut self, act: &Spoken<'_>) -> Result<(), Memory>
+        ensures { OnOk result (account.TakesIn C.covered (values.spoken_value act.now) self.old self.new) }
     {
         self.last = self.last.max(announced_number(act, self.writer));
         if !self.tell(act)? {
@@ -118,6 +113,18 @@ impl<C: Coverage> Accounts<C> {
         if let Some(number) = act.said().told {
             add_range(&mut self.again, number, number + 1)?;
         }
+        Ok(())
+    }
+
+    /// Takes in the next act of the writer. After `Memory` the accounts are of no use.
+    pub fn hear(&mut self, act: &Spoken<'_>) -> Result<(), Memory>
+        ensures counted { OnOk result (length self.new.accounts.items ≡ length self.old.accounts.items) }
+        ensures stand { OnOk result ((from datagram : ℕ) (writer : GuidValue) (pairs : List PairValue) (placed : List placed_spec.PlacedValue) (asks : List AskValue)
+            → placed_spec.is_from writer (record { datagram = datagram; act = values.spoken_value act.now }) ≡ true → All (λ ask. ask.answer.datagram ≤ datagram) asks
+            → account.AllStand C.covered from writer pairs placed asks self.old
+            → account.AllStand C.covered from writer pairs (placed ++ record { datagram = datagram; act = values.spoken_value act.now } ∷ []) asks self.new) }
+    {
+        self.take(act)?;
         Ok(())
     }
 
@@ -178,6 +185,15 @@ impl<C: Coverage> Accounts<C> {
             from: self.from,
             again: &self.again,
         }
+    }
+
+    /// Whether some number may have payloads that are compared: one of which a payload came again, or the greatest number, which no set
+    /// has.
+    pub fn has_questions(&self) -> bool
+        ensures again { result ≡ false → (n : ℕ) → merged_ranges.covered_of self.now.again n ≡ false }
+        ensures last { result ≡ false → self.now.last < 2 ^ 63 - 1 }
+    {
+        self.last == i64::MAX.cast_unsigned() || !self.again.is_empty()
     }
 
     /// The rows of the pairs, where all that the writer and the readers said is taken in, and these are the conflicts among the payloads of

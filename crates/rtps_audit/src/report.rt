@@ -7,6 +7,7 @@ ghost use Rattle.rtps_audit.specs.Account as account;
 
 use crate::index::Index;
 use crate::judging::rows_of_writer;
+use crate::tallies::Tallies;
 use crate::verdict::Verdict;
 use rtps_discovery::Pair;
 use rtps_ids::{Guid, Memory, SeqNum};
@@ -115,6 +116,22 @@ impl<'a> Index<'a> {
             rows,
             counts: self.tallies.counts(self.directory.unsettled()),
         })
+    }
+}
+
+impl Tallies {
+    /// The counts by these sums, where so many GUIDs are unsettled.
+    pub fn counts(&self, unsettled: usize) -> Counts
+        ensures { result ≡ index_spec.counts_with self.now unsettled }
+    {
+        Counts {
+            datagrams: self.datagrams,
+            refused: self.refused,
+            skipped: self.skipped,
+            fragments: self.fragments,
+            undirected: self.undirected,
+            unsettled: unsettled as u64,
+        }
     }
 }
 

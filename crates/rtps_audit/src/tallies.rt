@@ -1,7 +1,5 @@
-ghost use Rattle.rtps_audit.specs.Index as index_spec;
 ghost use Rattle.std.specs.Prelude.{◌≡◌, ◌+◌, ◌*◌, ◌<◌, ◌≤◌, ◌^◌, if◌then◌else◌};
 
-use crate::report::Counts;
 use rtps_wire::Tally;
 
 /// The sums of what is counted of datagrams.
@@ -59,20 +57,6 @@ impl Tallies {
         ensures { result ≡ self.now.datagrams }
     {
         self.datagrams
-    }
-
-    /// The counts by these sums, where so many GUIDs are unsettled.
-    pub fn counts(&self, unsettled: usize) -> Counts
-        ensures { result ≡ index_spec.counts_with self.now unsettled }
-    {
-        Counts {
-            datagrams: self.datagrams,
-            refused: self.refused,
-            skipped: self.skipped,
-            fragments: self.fragments,
-            undirected: self.undirected,
-            unsettled: unsettled as u64,
-        }
     }
 }
 

@@ -134,16 +134,30 @@ entry_added announced old new endpoint kept sorted updates joins were =
       each = λ guid. added_at announced old new endpoint kept guid _ refl (ap (option_map kept_spec.kept_value) (updates guid)) (were.each guid) joined;
     }
 
--- of two values that are written at one GUID, the second stands there
-pub written_twice : (old between new : List (Guid × Kept)) (guid : Guid) (first second : Kept)
-    → ((other : Guid) → lookup (is_at (guid_order.guid_cmp other)) between ≡ cond (eq_by_cmp guid_order.guid_cmp guid other) (Some first) (lookup (is_at (guid_order.guid_cmp other)) old))
-    → ((other : Guid) → lookup (is_at (guid_order.guid_cmp other)) new ≡ cond (eq_by_cmp guid_order.guid_cmp guid other) (Some second) (lookup (is_at (guid_order.guid_cmp other)) between))
-    → (other : Guid) → lookup (is_at (guid_order.guid_cmp other)) new ≡ cond (eq_by_cmp guid_order.guid_cmp guid other) (Some second) (lookup (is_at (guid_order.guid_cmp other)) old)
-written_twice old between new guid first second once again other = at_test (eq_by_cmp guid_order.guid_cmp guid other) _ _ _ (once other) (again other)
+-- a GUID that is there stays as it is, where it is announced as before
+pub joined_alike : (kept : Kept) (endpoint : endpoint_spec.EndpointValue) → endpoint_spec.endpoint_value kept.endpoint ≡ endpoint → kept_spec.IsJoined (Some (kept_spec.kept_value kept)) endpoint (kept_spec.kept_value kept)
+joined_alike kept endpoint same = at_settled kept.settled (endpoint_spec.endpoint_value kept.endpoint) same
   where
-    at_test : (same : Bool) (x y z : Option Kept) → y ≡ cond same (Some first) x → z ≡ cond same (Some second) y → z ≡ cond same (Some second) x
-    at_test true x y z e f = f
-    at_test false x y z e f = f ∙ e
+    at_settled : (settled : Bool) (there : endpoint_spec.EndpointValue) → there ≡ endpoint → kept_spec.IsJoined (Some (cond settled (Some there) None)) endpoint (cond settled (Some there) None)
+    at_settled true there same = inl (same, ap Some same)
+    at_settled false there same = refl
+
+-- it is unsettled, where it is announced otherwise
+pub joined_otherwise : (kept : Kept) (endpoint : endpoint_spec.EndpointValue) → endpoint_spec.endpoint_value kept.endpoint ≢ endpoint → kept_spec.IsJoined (Some (kept_spec.kept_value kept)) endpoint None
+joined_otherwise kept endpoint differ = at_settled kept.settled (endpoint_spec.endpoint_value kept.endpoint) differ
+  where
+    at_settled : (settled : Bool) (there : endpoint_spec.EndpointValue) → there ≢ endpoint → kept_spec.IsJoined (Some (cond settled (Some there) None)) endpoint None
+    at_settled true there differ = inr (differ, refl)
+    at_settled false there differ = refl
+
+-- the first announcement of a GUID is added
+pub first_added : (announced : List endpoint_spec.EndpointValue) (old new : List (Guid × Kept)) (endpoint : endpoint_spec.EndpointValue) (kept : Kept)
+    → IsStrictlySortedBy guid_order.guid_cmp (keys_of new)
+    → ((guid : Guid) → lookup (is_at (guid_order.guid_cmp guid)) new ≡ cond (eq_by_cmp guid_order.guid_cmp endpoint.guid guid) (Some kept) (lookup (is_at (guid_order.guid_cmp guid)) old))
+    → directory.entry_at (kept_spec.entries_value old) endpoint.guid ≡ None → kept_spec.kept_value kept ≡ Some endpoint
+    → directory.AreEntries announced (kept_spec.entries_value old) → directory.AreEntries (announced ++ endpoint ∷ []) (kept_spec.entries_value new)
+first_added announced old new endpoint kept sorted updates none is were =
+    entry_added announced old new endpoint kept sorted updates (subst (λ before. kept_spec.IsJoined before endpoint (kept_spec.kept_value kept)) (sym none ∙ entry_at-entries_value old endpoint.guid) is) were
 
 -- the endpoints that are settled, and how many GUIDs are not
 pub settled : (entries : List (Guid × Kept)) → map endpoint_spec.endpoint_value (map (λ kept. kept.endpoint) (filter (λ kept. kept.settled) (values_of entries))) ≡ directory.settled_in (kept_spec.entries_value entries)

@@ -41,7 +41,9 @@ fn is_there(endpoints: &mut BTreeMap<Guid, Kept<'_>>, endpoint: &Endpoint<'_>) -
 {
     match endpoints.get_mut(&endpoint.guid) {
         Some(kept) => {
-            kept.settled = kept.settled && is_same(&kept.endpoint, endpoint);
+            if !is_same(&kept.endpoint, endpoint) {
+                kept.settled = false;
+            }
             true
         }
         None => false,

@@ -42,3 +42,4 @@ pub mod WithoutFragments
 pub mod PlainStarts
 pub mod AnnouncementLemmas
 pub mod ReadDatagramLemmas
+pub mod Offered

@@ -53,7 +53,7 @@ pairs_are_heard_without_fragments pair recording said is acts asks = record {
   asks = is.asks ∙ sym (origin_same pair.reader pair.reader recording (ap hearing.have_fragments (sym is.asks) ∙ asks));
 }
 
-as_sent : (one : placed.PlacedValue) → hearing.sends_fragments one.act.body ≡ false → hearing.for_everyone one ≡ one
+pub as_sent : (one : placed.PlacedValue) → hearing.sends_fragments one.act.body ≡ false → hearing.for_everyone one ≡ one
 as_sent one none = ap (λ (act : values.ActValue). let at : placed.PlacedValue = record { datagram = one.datagram; act = act } in at) (by one.act.body none)
   where
     by : (body : values.ActBodyValue) → hearing.sends_fragments body ≡ false → hearing.sent_to_everyone one.act body ≡ one.act

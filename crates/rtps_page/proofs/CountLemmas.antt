@@ -1,19 +1,11 @@
 -- What is counted of the samples that acts tell, at one place, and of acts without fragments.
-use Rattle.std.proofs.lemmas.Bool.Decides.{nat_tests}
-use Rattle.std.proofs.Common.{◌≡◌, ◌<◌, ◌+◌, ◌∙◌, ℕ, zero, suc, false, cond, List, [], ◌∷◌, ◌++◌, None, ap, ap₂, append-nil, append_assoc, arith, get_or, length, map, refl, sym, take}
-use Rattle.std.proofs.lemmas.List.{map-append, take_more}
+use Rattle.std.proofs.Common.{◌≡◌, ◌<◌, ◌+◌, ◌∙◌, ℕ, zero, suc, false, List, [], ◌∷◌, ◌++◌, ap, ap₂, append-nil, append_assoc, arith, get_or, length, map, refl, sym, take}
 use Rattle.rtps_ids.specs.declared.identity.Guid.{Guid}
-use Rattle.rtps_receiver.specs.Values as receiver_values
 use Rattle.rtps_audit.specs.Placed as placed_spec
-use Rattle.rtps_audit.specs.declared.placed.Placed.{Placed}
 use Rattle.rtps_fragments.specs.Hearing as hearing
 use Rattle.rtps_fragments.specs.SampleActs as sample_acts
 use Rattle.rtps_fragments.specs.SampleCounts as sample_counts
-
--- acts as values, one more
-pub values_more : (acts : List Placed) (i : ℕ) (x : Placed) → i < length acts → x ≡ get_or acts i x → map placed_spec.placed_value (take (i + 1) acts) ≡ map placed_spec.placed_value (take i acts) ++ placed_spec.placed_value x ∷ []
-values_more acts i x lt at =
-    ap (λ (l : List Placed). map placed_spec.placed_value l) (take_more acts i x lt ∙ ap (λ (y : Placed). take i acts ++ y ∷ []) (sym at)) ∙ map-append placed_spec.placed_value (take i acts) (x ∷ [])
+use Rattle.rtps_fragments.proofs.Offered.{as_sent, no_piece}
 
 -- the count of the act at a place
 counts_from : (count : List placed_spec.PlacedValue → placed_spec.PlacedValue → ℕ) (before acts : List placed_spec.PlacedValue) (at : ℕ) (one : placed_spec.PlacedValue) → at < length acts → one ≡ get_or acts at one
@@ -29,21 +21,9 @@ counts_at count acts at one lt is = counts_from count [] acts at one lt is
 
 -- ---- acts without fragments tell nothing
 
-no_piece : (body : receiver_values.ActBodyValue) → hearing.sends_fragments body ≡ false → hearing.piece_in body ≡ None
-no_piece body none = grind (arith, nat_tests)
-
-as_sent : (act : receiver_values.ActValue) (body : receiver_values.ActBodyValue) → hearing.sends_fragments body ≡ false → hearing.sent_to_everyone act body ≡ act
-as_sent act (receiver_values.ActBodyValue.DataFrag value) none = ap (λ b. cond b (hearing.to_everyone act value) act) none
-as_sent act (receiver_values.ActBodyValue.Data value) none = refl
-as_sent act (receiver_values.ActBodyValue.Heartbeat value) none = refl
-as_sent act (receiver_values.ActBodyValue.AckNack value) none = refl
-as_sent act (receiver_values.ActBodyValue.Gap value) none = refl
-as_sent act (receiver_values.ActBodyValue.NackFrag value) none = refl
-
 pub no_samples : (reader : Guid) (before : List placed_spec.PlacedValue) (one : placed_spec.PlacedValue) → hearing.sends_fragments one.act.body ≡ false → sample_counts.samples_at reader before one ≡ 0
 no_samples reader before one none = ap (λ p. length (sample_acts.samples_told reader (sample_counts.with_pieces before) one.act p)) (no_piece one.act.body none)
 
 pub none_overheard : (before : List placed_spec.PlacedValue) (one : placed_spec.PlacedValue) → hearing.sends_fragments one.act.body ≡ false → sample_counts.overheard_at before one ≡ 0
 none_overheard before one none =
-    ap (λ act. sample_counts.samples_at hearing.nobody (map hearing.for_everyone before) (let other : placed_spec.PlacedValue = record { datagram = one.datagram; act = act } in other)) (as_sent one.act one.act.body none)
-    ∙ no_samples hearing.nobody (map hearing.for_everyone before) one none
+    ap (sample_counts.samples_at hearing.nobody (map hearing.for_everyone before)) (as_sent one none) ∙ no_samples hearing.nobody (map hearing.for_everyone before) one none

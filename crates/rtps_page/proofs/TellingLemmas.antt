@@ -15,7 +15,8 @@ use Rattle.rtps_evidence.specs.Locations as locations
 use Rattle.rtps_fragments.specs.Hearing as hearing
 use Rattle.rtps_fragments.specs.SampleCounts as sample_counts
 use Rattle.rtps_fragments.specs.declared.sample_counts.SampleCount.{SampleCount}
-use Rattle.rtps_page.proofs.CountLemmas.{counts_at, no_samples, none_overheard, values_more}
+use Rattle.rtps_page.proofs.CountLemmas.{counts_at, no_samples, none_overheard}
+use Rattle.rtps_fragments.proofs.Offered.{values_more}
 use Rattle.rtps_page.specs.ChartEntries as chart_entries
 use Rattle.rtps_page.specs.declared.tellings.Telling.{Telling}
 use Rattle.rtps_page.specs.declared.tellings.Tellings.{Tellings}

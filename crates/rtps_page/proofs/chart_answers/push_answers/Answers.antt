@@ -2,7 +2,7 @@ use Rattle.std.proofs.Common.{◌++◌, ◌∷◌, [], ◌∙◌, List, ap, code
 use Rattle.std.proofs.lemmas.List.{flat_map_more}
 use Rattle.rtps_audit.specs.Placed as placed
 use Rattle.rtps_audit.specs.declared.placed.Placed.{Placed}
-use Rattle.rtps_page.proofs.CountLemmas.{values_more}
+use Rattle.rtps_fragments.proofs.Offered.{values_more}
 use Rattle.rtps_page.proofs.EntryLemmas.{answered_tokens}
 use Rattle.rtps_page.proofs.Written.{Token, answer_json, begin_array, begin_object, end_array, end_object, guid_text, json_tokens, key, on_ok_weaker, six_parts, string, three_parts, two_parts}
 use Rattle.rtps_page.proofs.chart_answers.push_answers.Goals as goal

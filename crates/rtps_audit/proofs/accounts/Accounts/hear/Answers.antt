@@ -1,17 +1,11 @@
-use Rattle.std.proofs.Common.{◌≡◌, ◌∙◌, true, false, ap, max, sym}
-use Rattle.rtps_coverage.specs.MergedRanges as merged_ranges
+use Rattle.std.proofs.Common.{arith}
+use Rattle.rtps_receiver.specs.Values as values
+use Rattle.rtps_audit.proofs.AccountsLemmas.{all_stand_on}
 use Rattle.rtps_audit.proofs.accounts.Accounts.hear.Goals as goal
 
-pub returns-then-not-branch : goal.returns-then-not-branch
-returns-then-not-branch g c = record {
-  writer = c.in_ok-tell.ensures.writer;
-  from = c.in_ok-tell.ensures.from;
-  heard = c.in_ok-tell.ensures.heard;
-  kept = λ n positive small is. ap (λ set. merged_ranges.covered_of set n) c.in_ok-tell.ensures.set ∙ is;
-  again = λ place d n lt positive small comes.
-      let yes = c.in_ok-tell.ensures.again place d n lt comes in
-      let no = c.if-not-branch.true in
-      let clash : true ≡ false = sym yes ∙ no in
-      absurd cc;
-  last = c.in_ok-tell.ensures.last ∙ c.max-self.ensures ∙ ap (max c.args.self.now.last) c.announced_number.ensures.value;
-}
+pub returns-clause-counted : goal.returns-clause-counted
+returns-clause-counted g c = c.in_ok-take.ensures.heard.counted
+
+pub returns-clause-stand : goal.returns-clause-stand
+returns-clause-stand g c = λ from datagram writer pairs placed asks is behind known.
+    all_stand_on g.C.Coverage.covered from datagram writer pairs placed asks (record { datagram = datagram; act = values.spoken_value c.args.act.now }) c.args.self.now c.take.new.self is (omega arith) behind c.in_ok-take.ensures known

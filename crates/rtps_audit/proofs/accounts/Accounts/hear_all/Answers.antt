@@ -3,7 +3,6 @@ use Rattle.std.proofs.lemmas.List.{take_all}
 use Rattle.rtps_audit.specs.Account as account
 use Rattle.rtps_audit.specs.Placed as placed_spec
 use Rattle.rtps_audit.specs.declared.placed.Placed.{Placed}
-use Rattle.rtps_audit.proofs.AccountsLemmas.{all_stand_on}
 use Rattle.rtps_audit.proofs.PlacedActs.{map_next}
 use Rattle.rtps_audit.proofs.accounts.Accounts.hear_all.Goals as goal
 
@@ -12,7 +11,7 @@ loop-placed-init g c = record { counted = refl; stand = λ from since writer pai
 
 pub loop-placed-preserved : goal.loop-placed-preserved
 loop-placed-preserved g c = record {
-  counted = c.in_ok-hear.ensures.heard.counted ∙ c.loop-placed.invariant.counted;
+  counted = c.in_ok-hear.ensures.counted ∙ c.loop-placed.invariant.counted;
   stand = λ from since writer pairs placed asks of behind known.
       let covered = g.C.Coverage.covered in
       let acts = c.args.acts.now in
@@ -23,7 +22,7 @@ loop-placed-preserved g c = record {
       let is = subst (account.IsSince writer since) (sym c.placed-item.is) (of k at lt) in
       let next = map_next placed_spec.placed_value acts k at lt ∙ ap (λ (q : Placed). so_far ++ placed_spec.placed_value q ∷ []) (sym c.placed-item.is) in
       let old = c.loop-placed.invariant.stand from since writer pairs placed asks of behind known in
-      let more = all_stand_on covered from since writer pairs (placed ++ so_far) asks (placed_spec.placed_value at) c.loop-placed.self c.hear.new.self is.from is.since behind c.in_ok-hear.ensures old in
+      let more = c.in_ok-hear.ensures.stand from (placed_spec.placed_value at).datagram writer pairs (placed ++ so_far) asks is.from (λ place d within. let early = behind place d within in let later = is.since in omega (arith, early, later)) old in
       subst (λ l. account.AllStand covered from writer pairs l asks c.hear.new.self) (append_assoc placed so_far (placed_spec.placed_value at ∷ []) ∙ ap (λ l. placed ++ l) (sym next)) more;
 }
 

@@ -3,7 +3,7 @@ use Rattle.std.specs.List.{All}
 use Rattle.rtps_receiver.specs.Values as values
 use Rattle.rtps_audit.specs.Account as account_spec
 use Rattle.rtps_audit.specs.Report as report
-use Rattle.rtps_audit.proofs.accounts.Accounts.rows.Given as goal
+use Rattle.rtps_audit.proofs.accounts.Accounts.rows_by.Given as goal
 
 -- a row for each account so far
 abbrev pub invariant-loop-account : goal.invariant-loop-account
