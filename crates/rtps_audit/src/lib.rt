@@ -7,7 +7,6 @@ mod accounts;
 mod announced_places;
 mod answer;
 mod ask;
-mod compared;
 mod first_asked;
 mod front_ranges;
 mod groups;

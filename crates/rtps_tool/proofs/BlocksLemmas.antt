@@ -310,6 +310,7 @@ rest_fails limits captures a b RunFault.Input is = tt
 rest_fails limits captures a b RunFault.Memory is = tt
 rest_fails limits captures a b (RunFault.Recording fault) is = absurd is
 rest_fails limits captures a b (RunFault.Output written) is = absurd is
+rest_fails limits captures a b RunFault.Changed is = absurd is
 
 -- ---- a capture in memory
 

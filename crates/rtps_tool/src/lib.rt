@@ -9,7 +9,9 @@ mod faults;
 mod follow;
 mod form;
 pub mod laws;
+mod passes;
 mod runs;
+mod source;
 mod streams;
 
 pub use choices::run_choice;
@@ -25,8 +27,10 @@ pub use rtps_parts::NameOctets;
 pub use rtps_report::{
     Asked, AskedAudit, Datagrams, Ending, FewRows, Findings, Fragments, Recording, Unwatched, Watch,
 };
+pub use passes::run_passes;
 pub use runs::{
     Command, Form, Inputs, Limits, Options, run, run_audit, run_audit_from, run_beside, run_list,
     run_sample, run_show,
 };
+pub use source::{Rereading, Source};
 pub use streams::read_input;

@@ -21,7 +21,7 @@ use std::io::{Read, Write};
 const PIECE: usize = 1 << 16;
 
 /// How many octets are held of a text: an unfinished line, and what is read behind it.
-const HELD: usize = KEPT_MAX + PIECE;
+pub(crate) const HELD: usize = KEPT_MAX + PIECE;
 
 /// How many octets tell the form of an input.
 pub(crate) const FORM: usize = 4;
@@ -59,7 +59,7 @@ pub(crate) fn zeros(alloc: Global, size: usize) -> Result<Vec<u8>, AllocError>
 }
 
 /// Reads the first octets of the input, as many as tell its form and perhaps more, or all where there are fewer.
-fn read_start<R: Read>(input: &mut R, held: &mut [u8]) -> Result<usize, RunFault>
+pub(crate) fn read_start<R: Read>(input: &mut R, held: &mut [u8]) -> Result<usize, RunFault>
     requires room { length held.old ≡ 196607 }
     ensures { MatchResult result
         (λ start. (start ≤ 65539) × Consumes (R.remaining input.old) (R.remaining input.new) (take start held.new)

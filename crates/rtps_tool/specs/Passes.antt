@@ -1,0 +1,68 @@
+-- A capture that is read more than once, and a run of it. own: a report on a long capture is made without keeping its datagrams, which are
+-- read again for what the first reading does not tell; where the octets of the input are known, this changes nothing of what is written.
+use Rattle.std.specs.Prelude.{ℕ, ◌≡◌, ◌≤◌, true, List, length, Option, Some, None, Result, Ok, Err, string_bytes}
+use Rattle.std.specs.Io.KnownBytes.{Appends, Keeps}
+use Rattle.std.specs.Hash.DefaultHasher as sip
+use Rattle.std.specs.declared.string.String.{String}
+use Rattle.rtps_capture.specs.Course as course
+use Rattle.rtps_capture.specs.declared.captures.Captures.{Captures}
+use Rattle.rtps_report.specs.Recording as recording
+use Rattle.rtps_report.specs.declared.findings.Ending.{Ending}
+use Rattle.rtps_tool.specs.Forms as forms
+use Rattle.rtps_tool.specs.Runs as runs
+use Rattle.rtps_tool.specs.Sums as sums
+use Rattle.rtps_tool.specs.declared.faults.RunFault.{RunFault}
+use Rattle.rtps_tool.specs.declared.form.capture_blocks.WholeCapture.{WholeCapture}
+use Rattle.rtps_tool.specs.declared.passes.reading.FirstPass.{FirstPass}
+use Rattle.rtps_tool.specs.declared.runs.Limits.{Limits}
+
+-- all datagrams of a capture of these octets
+abbrev pub datagrams_of : Limits → Captures → List ℕ → List course.DatagramValue
+datagrams_of limits captures all = (course.course_of captures limits.datagrams all).datagrams
+
+-- this was found of a capture of these octets, all of which were read
+pub record IsWholeOf (limits : Limits) (captures : Captures) (all : List ℕ) (whole : WholeCapture) : Type 0 where
+  pub long : 4 ≤ length all
+  pub begins : forms.begins_capture captures all ≡ true
+  pub within : length all ≤ limits.octets
+  pub size : whole.octets ≡ length all
+  pub ends : (course.course_of captures limits.datagrams all).end ≡ Ok whole.summary
+
+-- the same, by the first pass
+abbrev pub datagrams_in : FirstPass → List ℕ → List course.DatagramValue
+datagrams_in first all = datagrams_of first.terms.limits first.terms.captures all
+
+-- and their octets
+abbrev pub octets_in : FirstPass → List ℕ → List (List ℕ)
+octets_in first all = sums.octets_of (datagrams_in first all)
+
+-- the first pass was over a capture of these octets
+pub record IsFirstOf (all : List ℕ) (first : FirstPass) : Type 0 where
+  pub whole : IsWholeOf first.terms.limits first.terms.captures all first.whole
+  pub sum : first.sum ≡ sip.finish (sums.sum_of sip.initial (datagrams_in first all))
+
+-- an input of these octets is not read, for such a fault
+abbrev pub FailsOn : Limits → Captures → List ℕ → RunFault → Type 0
+FailsOn limits captures all fault = (left : Option (List ℕ)) × runs.FailsReading limits captures (Some all) left fault
+
+-- nothing was written before such a fault
+abbrev pub IsReadFault : RunFault → Type 0
+IsReadFault (RunFault.Output written) = ⊥
+IsReadFault fault = Unit {0}
+
+-- a text of the recording that these octets are, and how a run ends that writes it, where there is one
+abbrev pub Tells : Limits → Captures → (recording.RecordingValue → List ℕ → Ending → Type 0) → List ℕ → Option (String × Ending) → Type 0
+Tells limits captures IsPrinted all None = Unit {0}
+Tells limits captures IsPrinted all (Some told) =
+    (recording : recording.RecordingValue) × (forms.recording_within limits captures all ≡ Ok recording) × IsPrinted recording (string_bytes told.0) told.1
+
+-- whatever was read, some text was written, or there was a fault before that, or a write failed
+abbrev pub Writes : (held holds : Option (List ℕ)) → Result Ending RunFault → Type 0
+Writes held holds (Ok ending) = (text : List ℕ) × Appends held holds text
+Writes held holds (Err (RunFault.Output written)) = (text : List ℕ) × runs.FailsWriting held holds text (RunFault.Output written)
+Writes held holds (Err fault) = Keeps held holds
+
+-- A run of a source. Where its octets are known, it is a run that reads them; so it is never told that they changed.
+abbrev pub RunsSource : Limits → Captures → (recording.RecordingValue → List ℕ → Ending → Type 0) → (octets held holds : Option (List ℕ)) → Result Ending RunFault → Type 0
+RunsSource limits captures IsPrinted (Some all) held holds result = (left : Option (List ℕ)) × runs.RunsWithin limits captures IsPrinted (Some all) left held holds result
+RunsSource limits captures IsPrinted None held holds result = Writes held holds result

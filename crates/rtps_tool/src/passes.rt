@@ -1,0 +1,215 @@
+//! Runs that read a capture more than once, and keep no datagram of it.
+
+ghost use Rattle.std.specs.Prelude.{ℕ, ◌≡◌, List, None, Some, IfErr, MatchResult};
+ghost use Rattle.rtps_audit.specs.Delivered as delivered;
+ghost use Rattle.rtps_audit.specs.Intake as intake_spec;
+ghost use Rattle.rtps_audit.specs.Speech as speech;
+ghost use Rattle.rtps_discovery.specs.Directory as directory_spec;
+ghost use Rattle.rtps_passes.specs.Judging as judging_spec;
+ghost use Rattle.rtps_passes.specs.Survey as survey_spec;
+ghost use Rattle.rtps_receiver.specs.Values as values;
+ghost use Rattle.rtps_report.specs.Asked as asked_spec;
+ghost use Rattle.rtps_text.specs.ListText as list_text_spec;
+ghost use Rattle.rtps_text.specs.ReportText as report_text_spec;
+ghost use Rattle.rtps_tool.specs.CaptureBlocks as capture_blocks;
+ghost use Rattle.rtps_tool.specs.Commands as commands;
+ghost use Rattle.rtps_tool.specs.Passes as passes_spec;
+
+pub(crate) mod pass;
+mod reading;
+mod takers;
+
+use crate::faults::RunFault;
+use crate::follow::Follow;
+use crate::form::capture_blocks::CaptureTerms;
+use crate::passes::pass::Pass;
+use crate::passes::reading::{FirstPass, first_pass, read_again, rewind};
+use crate::passes::takers::{Compared, Judged, Surveyed};
+use crate::runs::{Command, Options, run};
+use crate::source::{Rereading, Source};
+use crate::streams::write_text;
+use bumpalo::Bump;
+use rtps_audit::Report;
+use rtps_capture::laws::course_is_told;
+use rtps_discovery::Directory;
+use rtps_fragments::laws::{acts_are_heard_without_fragments, skipped_fragments_are_not_sent};
+use rtps_ids::SeqNum;
+use rtps_passes::{Comparison, Judging, Survey};
+use rtps_report::{AskedAudit, Ending, Fragments, Watch};
+use rtps_text::{directory_text, report_text};
+use std::alloc::Global;
+use std::io::{Read, Write};
+
+/// [`run`] of a source, which may be read more than once: of a capture that is listed or audited as lines, without fragments, no datagram is
+/// kept. What is written of a source whose octets are known, and how the run ends, is what [`run`] promises of these octets. A pass reads no
+/// more octets than the first one did. Where it finds other datagrams than that, [`RunFault::Changed`] is answered. It tells what was read,
+/// and how far an audit is.
+///
+/// The whole text is made before anything is written. An `Err` says what was written: nothing, but for [`RunFault::Output`].
+pub fn run_passes<R: Read, S: Source<R>, W: Write, P: Watch + Follow>(
+    alloc: Global,
+    options: &Options<'_>,
+    input: &mut Rereading<S, R>,
+    output: &mut W,
+    watch: &mut P,
+) -> Result<Ending, RunFault>
+    ensures { passes_spec.RunsSource options.now.limits options.now.captures (commands.IsTextOf (commands.command_value options.now.command) None)
+        (S.octets input.old.source) (W.contents output.old) (W.contents output.new) result }
+{
+    let source = &input.source;
+    let reader = &mut input.reader;
+    match passes_text(alloc, options, source, reader, watch)? {
+        Some((text, ending)) => {
+            write_text(text.as_bytes(), output)?;
+            Ok(ending)
+        }
+        None => {
+            rewind(source, reader, 0)?;
+            run(alloc, options, reader, output, watch)
+        }
+    }
+}
+
+/// What is printed by passes over a source, and how the run ends. None where it is no capture, or the command is none that goes by passes.
+fn passes_text<R: Read, S: Source<R>, P: Watch + Follow>(
+    alloc: Global,
+    options: &Options<'_>,
+    source: &S,
+    reader: &mut R,
+    watch: &mut P,
+) -> Result<Option<(String, Ending)>, RunFault>
+    ensures known { (all : List ℕ) → S.octets source.now ≡ Some all
+        → MatchResult result
+        (passes_spec.Tells options.now.limits options.now.captures (commands.IsTextOf (commands.command_value options.now.command) None) all)
+        (passes_spec.FailsOn options.now.limits options.now.captures all) }
+    ensures fault { IfErr result passes_spec.IsReadFault }
+{
+    let terms = CaptureTerms {
+        alloc,
+        limits: options.limits,
+        captures: options.captures,
+    };
+    match options.command {
+        Command::Audit(AskedAudit {
+            from,
+            fragments: Fragments::Skipped,
+        }) => audit_by_passes(terms, from, source, reader, watch),
+        Command::List(Fragments::Skipped) => list_by_passes(terms, source, reader, watch),
+        _ => Ok(None),
+    }
+}
+
+/// What `list` prints of a source, and that it ends [`Ending::Clean`]. None where it is no capture.
+fn list_by_passes<R: Read, S: Source<R>, P: Follow>(
+    terms: CaptureTerms,
+    source: &S,
+    reader: &mut R,
+    watch: &mut P,
+) -> Result<Option<(String, Ending)>, RunFault>
+    ensures known { (all : List ℕ) → S.octets source.now ≡ Some all
+        → MatchResult result (passes_spec.Tells terms.limits terms.captures list_text_spec.IsListed all) (passes_spec.FailsOn terms.limits terms.captures all) }
+    ensures fault { IfErr result passes_spec.IsReadFault }
+{
+    course_is_told();
+    let names = Bump::new(terms.alloc);
+    let mut pass = Pass::new(1, Surveyed::new(terms.alloc, &names));
+    let Some(first) = first_pass(terms, source, reader, &mut pass)? else {
+        return Ok(None);
+    };
+    watch.recorded(Some(first.ignored()));
+    let survey = &pass.taker.survey;
+    let text = directory_text(terms.alloc, survey.directory(), survey.faults())?;
+    Ok(Some((text, Ending::Clean)))
+}
+
+/// What `audit` prints of a source by the numbers from `from` on, and how it ends. None where it is no capture.
+fn audit_by_passes<R: Read, S: Source<R>, P: Follow>(
+    terms: CaptureTerms,
+    from: SeqNum,
+    source: &S,
+    reader: &mut R,
+    watch: &mut P,
+) -> Result<Option<(String, Ending)>, RunFault>
+    ensures known { (all : List ℕ) → S.octets source.now ≡ Some all
+        → MatchResult result (passes_spec.Tells terms.limits terms.captures (report_text_spec.IsAuditedFrom from) all) (passes_spec.FailsOn terms.limits terms.captures all) }
+    ensures fault { IfErr result passes_spec.IsReadFault }
+{
+    course_is_told();
+    skipped_fragments_are_not_sent();
+    acts_are_heard_without_fragments();
+    let names = Bump::new(terms.alloc);
+    let mut pass = Pass::new(1, Surveyed::new(terms.alloc, &names));
+    let Some(first) = first_pass(terms, source, reader, &mut pass)? else {
+        return Ok(None);
+    };
+    watch.recorded(Some(first.ignored()));
+    let survey = &pass.taker.survey;
+    let report = report_again(first, from, source, reader, survey)?;
+    let told = report_text(terms.alloc, &report, Some(first.ignored()))?;
+    Ok(Some(told))
+}
+
+/// The report on a capture, by the passes behind the first one.
+fn report_again<R: Read, S: Source<R>>(
+    first: FirstPass,
+    from: SeqNum,
+    source: &S,
+    reader: &mut R,
+    survey: &Survey<'_>,
+) -> Result<Report, RunFault>
+    ensures known { (all : List ℕ) → S.octets source.now ≡ Some all → passes_spec.IsFirstOf all first
+        → survey_spec.IsSurveyBy (intake_spec.intake_of (passes_spec.octets_in first all)) survey.now
+        → MatchResult result (delivered.IsExactReportBy from (intake_spec.intake_of (passes_spec.octets_in first all))) capture_blocks.IsNoRecFault }
+    ensures fault { IfErr result passes_spec.IsReadFault }
+{
+    let judging = judge_again(first, from, source, reader, survey.directory())?;
+    compare_again(first, source, reader, survey, &judging)
+}
+
+/// The second pass: the accounts of the pairs of a directory.
+fn judge_again<R: Read, S: Source<R>>(
+    first: FirstPass,
+    from: SeqNum,
+    source: &S,
+    reader: &mut R,
+    directory: &Directory<'_>,
+) -> Result<Judging, RunFault>
+    ensures known { (all : List ℕ) (acts : List values.ActValue) → S.octets source.now ≡ Some all → passes_spec.IsFirstOf all first → directory_spec.IsMapOf acts directory.now
+        → MatchResult result
+        (judging_spec.IsJudgingBy from (judging_spec.pairs_in directory.now) (speech.acts_by_datagram (passes_spec.octets_in first all)))
+        capture_blocks.IsNoRecFault }
+    ensures fault { IfErr result passes_spec.IsReadFault }
+{
+    let alloc = first.terms.alloc;
+    let judging = Judging::of(alloc, directory, from)?;
+    let mut pass = Pass::new(2, Judged { judging, alloc });
+    read_again(first, source, reader, &mut pass)?;
+    Ok(pass.into_taker().judging)
+}
+
+/// The third pass, where payloads have to be compared, and the report.
+fn compare_again<R: Read, S: Source<R>>(
+    first: FirstPass,
+    source: &S,
+    reader: &mut R,
+    survey: &Survey<'_>,
+    judging: &Judging,
+) -> Result<Report, RunFault>
+    ensures known { (all : List ℕ) (from : ℕ) → S.octets source.now ≡ Some all → passes_spec.IsFirstOf all first
+        → survey_spec.IsSurveyBy (intake_spec.intake_of (passes_spec.octets_in first all)) survey.now
+        → judging_spec.IsJudgingBy from (judging_spec.pairs_in survey.now.directory) (speech.acts_by_datagram (passes_spec.octets_in first all)) judging.now
+        → MatchResult result (delivered.IsExactReportBy from (intake_spec.intake_of (passes_spec.octets_in first all))) capture_blocks.IsNoRecFault }
+    ensures fault { IfErr result passes_spec.IsReadFault }
+{
+    let alloc = first.terms.alloc;
+    let payloads = Bump::new(alloc);
+    let comparison = Comparison::of(alloc, judging);
+    if !judging.has_questions() {
+        let report = comparison.report(survey)?;
+        return Ok(report);
+    }
+    let mut pass = Pass::new(3, Compared::new(alloc, comparison, &payloads));
+    read_again(first, source, reader, &mut pass)?;
+    let report = pass.taker.comparison.report(survey)?;
+    Ok(report)
+}

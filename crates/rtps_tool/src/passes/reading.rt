@@ -1,0 +1,116 @@
+//! A capture that is read again from its start.
+
+ghost use Rattle.std.specs.Prelude.{ℕ, ◌≡◌, ◌×◌, [], List, Some, IfErr, IfSome, MatchResult, OnOk};
+ghost use Rattle.std.specs.Hash.DefaultHasher as sip;
+ghost use Rattle.rtps_capture.specs.Course as course;
+ghost use Rattle.rtps_tool.specs.CaptureBlocks as capture_blocks;
+ghost use Rattle.rtps_tool.specs.Passes as passes_spec;
+ghost use Rattle.rtps_tool.specs.declared.faults.RunFault.TheVariants.{Input};
+
+use crate::faults::RunFault;
+use crate::form::capture_blocks::{CaptureTerms, WholeCapture, take_capture};
+use crate::form::either::begins_capture;
+use crate::form::taking::Take;
+use crate::passes::pass::Pass;
+use crate::source::Source;
+use crate::streams::{FORM, HELD, read_start, zeros};
+use std::io::Read;
+
+/// A capture that was read once: how, what was found, and the sum over its datagrams.
+#[derive(Clone, Copy)]
+pub(crate) struct FirstPass {
+    pub(crate) terms: CaptureTerms,
+    whole: WholeCapture,
+    sum: u64,
+    ghost few: { course.ignored_of whole.summary < 2 ^ 64 },
+}
+
+impl FirstPass {
+    /// How many frames gave no datagram.
+    pub(crate) fn ignored(&self) -> u64
+        ensures { result ≡ course.ignored_of self.now.whole.summary }
+    {
+        let summary = self.whole.summary;
+        summary.pieces + summary.cut + summary.other + summary.links
+    }
+}
+
+/// Has a reader read a source from its start, for a pass of this number.
+pub(crate) fn rewind<R: Read, S: Source<R>>(
+    source: &S,
+    reader: &mut R,
+    pass: u8,
+) -> Result<(), RunFault>
+    ensures { MatchResult result (λ _. R.remaining reader.new ≡ S.octets source.now) (λ fault. fault ≡ Input) }
+{
+    match source.rewind(reader, pass) {
+        Ok(()) => Ok(()),
+        Err(_) => Err(RunFault::Input),
+    }
+}
+
+/// Tells a taker the datagrams of an input. None where it is no capture.
+fn read_pass<R: Read, T: Take>(
+    terms: CaptureTerms,
+    input: &mut R,
+    taker: &mut T,
+) -> Result<Option<WholeCapture>, RunFault>
+    ensures known { (all : List ℕ) (start : T) → R.remaining input.old ≡ Some all → T.has_taken start [] taker.old
+        → MatchResult result
+        (λ found. IfSome found (λ whole. passes_spec.IsWholeOf terms.limits terms.captures all whole × T.has_taken start (passes_spec.datagrams_of terms.limits terms.captures all) taker.new))
+        (passes_spec.FailsOn terms.limits terms.captures all) }
+    ensures fault { IfErr result passes_spec.IsReadFault }
+{
+    let mut held = zeros(terms.alloc, HELD)?;
+    let start = read_start(input, &mut held)?;
+    if start < FORM || !begins_capture(terms.captures, &held[..start]) {
+        return Ok(None);
+    }
+    let whole = take_capture(terms, input, &held[..start], taker)?;
+    Ok(Some(whole))
+}
+
+/// The first pass over a source. None where it is no capture.
+pub(crate) fn first_pass<R: Read, S: Source<R>, T: Take>(
+    terms: CaptureTerms,
+    source: &S,
+    reader: &mut R,
+    pass: &mut Pass<T>,
+) -> Result<Option<FirstPass>, RunFault>
+    ensures known { (all : List ℕ) (start : T) → S.octets source.now ≡ Some all → pass.old.sum ≡ sip.initial → T.has_taken start [] pass.old.taker
+        → MatchResult result
+        (λ found. IfSome found (λ first. (first.terms ≡ terms) × passes_spec.IsFirstOf all first × T.has_taken start (passes_spec.datagrams_in first all) pass.new.taker))
+        (passes_spec.FailsOn terms.limits terms.captures all) }
+    ensures fault { IfErr result passes_spec.IsReadFault }
+{
+    rewind(source, reader, pass.number)?;
+    let Some(whole) = read_pass(terms, reader, pass)? else {
+        return Ok(None);
+    };
+    Ok(Some(FirstPass {
+        terms,
+        whole,
+        sum: pass.sum(),
+    }))
+}
+
+/// A pass behind the first one, over as many octets as that one read. Where it does not find the same datagrams, the source has changed.
+pub(crate) fn read_again<R: Read, S: Source<R>, T: Take>(
+    first: FirstPass,
+    source: &S,
+    reader: &mut R,
+    pass: &mut Pass<T>,
+) -> Result<(), RunFault>
+    ensures known { (all : List ℕ) (start : T) → S.octets source.now ≡ Some all → passes_spec.IsFirstOf all first → pass.old.sum ≡ sip.initial
+        → T.has_taken start [] pass.old.taker
+        → MatchResult result (λ _. T.has_taken start (passes_spec.datagrams_in first all) pass.new.taker) capture_blocks.IsNoRecFault }
+    ensures fault { IfErr result passes_spec.IsReadFault }
+{
+    rewind(source, reader, pass.number)?;
+    let mut input = reader.by_ref().take(first.whole.octets);
+    match read_pass(first.terms, &mut input, pass) {
+        Ok(Some(whole)) if whole.octets == first.whole.octets && pass.sum() == first.sum => Ok(()),
+        Ok(_) | Err(RunFault::Recording(_)) => Err(RunFault::Changed),
+        Err(fault) => Err(fault),
+    }
+}
