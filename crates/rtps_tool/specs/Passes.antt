@@ -13,7 +13,7 @@ use Rattle.rtps_tool.specs.Runs as runs
 use Rattle.rtps_tool.specs.Sums as sums
 use Rattle.rtps_tool.specs.declared.faults.RunFault.{RunFault}
 use Rattle.rtps_tool.specs.declared.form.capture_blocks.WholeCapture.{WholeCapture}
-use Rattle.rtps_tool.specs.declared.passes.reading.FirstPass.{FirstPass}
+use Rattle.rtps_tool.specs.declared.passes.first_pass.FirstPass.{FirstPass}
 use Rattle.rtps_tool.specs.declared.runs.Limits.{Limits}
 
 -- all datagrams of a capture of these octets

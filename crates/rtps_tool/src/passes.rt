@@ -15,15 +15,17 @@ ghost use Rattle.rtps_tool.specs.CaptureBlocks as capture_blocks;
 ghost use Rattle.rtps_tool.specs.Commands as commands;
 ghost use Rattle.rtps_tool.specs.Passes as passes_spec;
 
-pub(crate) mod pass;
+mod first_pass;
+mod pass;
 mod reading;
 mod takers;
 
 use crate::faults::RunFault;
 use crate::follow::Follow;
 use crate::form::capture_blocks::CaptureTerms;
+use crate::passes::first_pass::FirstPass;
 use crate::passes::pass::Pass;
-use crate::passes::reading::{FirstPass, first_pass, read_again, rewind};
+use crate::passes::reading::{first_pass, read_again, rewind};
 use crate::passes::takers::{Compared, Judged, Surveyed};
 use crate::runs::{Command, Options, run};
 use crate::source::{Rereading, Source};

@@ -1,8 +1,7 @@
 //! A capture that is read again from its start.
 
-ghost use Rattle.std.specs.Prelude.{ℕ, ◌≡◌, ◌×◌, [], List, Some, IfErr, IfSome, MatchResult, OnOk};
+ghost use Rattle.std.specs.Prelude.{ℕ, ◌≡◌, [], List, Some, IfErr, IfSome, MatchResult};
 ghost use Rattle.std.specs.Hash.DefaultHasher as sip;
-ghost use Rattle.rtps_capture.specs.Course as course;
 ghost use Rattle.rtps_tool.specs.CaptureBlocks as capture_blocks;
 ghost use Rattle.rtps_tool.specs.Passes as passes_spec;
 ghost use Rattle.rtps_tool.specs.declared.faults.RunFault.TheVariants.{Input};
@@ -11,29 +10,11 @@ use crate::faults::RunFault;
 use crate::form::capture_blocks::{CaptureTerms, WholeCapture, take_capture};
 use crate::form::either::begins_capture;
 use crate::form::taking::Take;
+use crate::passes::first_pass::FirstPass;
 use crate::passes::pass::Pass;
 use crate::source::Source;
 use crate::streams::{FORM, HELD, read_start, zeros};
 use std::io::Read;
-
-/// A capture that was read once: how, what was found, and the sum over its datagrams.
-#[derive(Clone, Copy)]
-pub(crate) struct FirstPass {
-    pub(crate) terms: CaptureTerms,
-    whole: WholeCapture,
-    sum: u64,
-    ghost few: { course.ignored_of whole.summary < 2 ^ 64 },
-}
-
-impl FirstPass {
-    /// How many frames gave no datagram.
-    pub(crate) fn ignored(&self) -> u64
-        ensures { result ≡ course.ignored_of self.now.whole.summary }
-    {
-        let summary = self.whole.summary;
-        summary.pieces + summary.cut + summary.other + summary.links
-    }
-}
 
 /// Has a reader read a source from its start, for a pass of this number.
 pub(crate) fn rewind<R: Read, S: Source<R>>(
