@@ -130,18 +130,17 @@ pub(crate) fn take_text<R: Read, T: Take>(
         (unfinished.TakesText terms.limits terms.captures before (R.remaining input.new) (λ datagrams. T.has_taken first datagrams taker.new))
         (runs.FailsReading terms.limits terms.captures before (R.remaining input.new)) }
 {
-    let limits = terms.limits;
     let mut reader = LineReader::new(terms.alloc);
     let mut total = start as u128;
     let mut kept = 0;
     let mut got = start;
-    'pieces: while total <= limits.octets as u128 {
-        match reader.feed(limits.datagrams, &mut held[..kept + got], kept, taker) {
+    'pieces: while total <= terms.limits.octets as u128 {
+        match reader.feed(terms.limits.datagrams, &mut held[..kept + got], kept, taker) {
             Ok(left) => kept = left,
             Err(RecFault::Memory) => return Err(RunFault::Memory),
             Err(fault) => {
-                let total = read_on(limits, input, held, total)?;
-                let first = if total > limits.octets as u128 {
+                let total = read_on(terms.limits, input, held, total)?;
+                let first = if total > terms.limits.octets as u128 {
                     RecFault::TooMany
                 } else {
                     fault
@@ -154,7 +153,7 @@ pub(crate) fn take_text<R: Read, T: Take>(
             Err(_) => return Err(RunFault::Input),
         };
         if got == 0 {
-            reader.finish(limits.datagrams, &held[..kept], taker)?;
+            reader.finish(terms.limits.datagrams, &held[..kept], taker)?;
             return Ok(total as u64);
         }
         total += got as u128;
