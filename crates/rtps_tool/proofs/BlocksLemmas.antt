@@ -1,5 +1,5 @@
 -- A capture that is read by blocks stands for what the whole of it does.
-use Rattle.std.proofs.Common.{◌≡◌, ◌<◌, ◌≤◌, ◌+◌, ◌-◌, ◌^◌, ◌⊎◌, ℕ, Bool, true, false, List, [], ◌∷◌, ◌++◌, length, take, drop, refl, sym, ap, ap₂, subst, ◌∙◌, append_assoc, append-nil, take-append-drop, inl, inr, arith}
+use Rattle.std.proofs.Common.{◌≡◌, ◌<◌, ◌≤◌, ◌+◌, ◌-◌, ◌⊎◌, ℕ, Bool, true, false, List, [], ◌∷◌, ◌++◌, length, take, drop, refl, sym, ap, ap₂, subst, ◌∙◌, append_assoc, append-nil, take-append-drop, inl, inr, arith}
 use Rattle.std.specs.Prelude.{None, Option, Some, Result, Ok, Err, slice_range}
 use Rattle.std.specs.Io.KnownBytes.{Consumes, IsAtEnd}
 use Rattle.std.proofs.KnownBytes.{Consumes-trans}
@@ -30,7 +30,7 @@ use Rattle.rtps_tool.specs.Runs as runs
 use Rattle.rtps_tool.specs.declared.faults.RecFault.{RecFault}
 use Rattle.rtps_tool.specs.declared.faults.RunFault.{RunFault}
 use Rattle.rtps_tool.specs.declared.form.capture_blocks.Stop.{Stop}
-use Rattle.rtps_tool.specs.declared.form.capture_blocks.WholeCapture.{WholeCapture}
+use Rattle.rtps_tool.specs.declared.form.whole_capture.WholeCapture.{WholeCapture}
 use Rattle.rtps_tool.specs.declared.runs.Limits.{Limits}
 use Rattle.rtps_tool.proofs.ReadingLemmas.{FailsReading-text}
 use Rattle.rtps_tool.proofs.UnfinishedLemmas.{begins_capture-append, recording_of-capture, recording_of-past}
@@ -255,10 +255,10 @@ taken_past limits captures before now reader datagrams past (inr whole) = past_f
 
 -- all of it was taken
 pub takes_all : (limits : Limits) (captures : Captures) (before now : Option (List ℕ)) (reader : CaptureReader) (Took : List course.DatagramValue → Type 0) (whole : WholeCapture)
-    → whole.summary ≡ advancing.summary_of reader → whole.octets ≡ reader.frames.held.read → course.ignored_of whole.summary < 2 ^ 64 → reader.frames.held.read ≤ limits.octets
+    → whole.summary ≡ advancing.summary_of reader → whole.octets ≡ reader.frames.held.read → reader.frames.held.read ≤ limits.octets
     → blocks.Takes limits captures before now reader Took → blocks.TakesAll limits captures before now Took whole
-takes_all limits captures before now reader Took whole summary octets few within (datagrams, took, inl (past, so)) = absurd (omega (arith, past, within))
-takes_all limits captures before now reader Took whole summary octets few within (datagrams, took, inr is) = record {
+takes_all limits captures before now reader Took whole summary octets within (datagrams, took, inl (past, so)) = absurd (omega (arith, past, within))
+takes_all limits captures before now reader Took whole summary octets within (datagrams, took, inr is) = record {
   text = is.text;
   datagrams = datagrams;
   took = took;
@@ -267,7 +267,6 @@ takes_all limits captures before now reader Took whole summary octets few within
   size = octets ∙ is.size;
   within = omega (arith, is.size, within);
   told = is.told ∙ ap (λ (s : Summary). let end : course.Course = record { datagrams = datagrams; end = Ok s } in end) (sym summary);
-  few = few;
 }
 
 -- it has a fault, and the rest was read

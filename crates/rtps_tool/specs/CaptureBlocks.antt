@@ -1,5 +1,5 @@
 -- A capture of which a part was read. own: a recording may come in blocks, and stands for the same however it is cut into them.
-use Rattle.std.specs.Prelude.{ℕ, ◌+◌, ◌^◌, ◌≡◌, ◌<◌, ◌≤◌, ◌⊎◌, Bool, false, true, List, [], ◌++◌, length, Option, Ok, Err}
+use Rattle.std.specs.Prelude.{ℕ, ◌+◌, ◌≡◌, ◌<◌, ◌≤◌, ◌⊎◌, Bool, false, true, List, [], ◌++◌, length, Option, Ok, Err}
 use Rattle.std.specs.Io.KnownBytes.{Consumes, IsAtEnd}
 use Rattle.rtps_capture.specs.Advancing as advancing
 use Rattle.rtps_capture.specs.Course as course
@@ -11,7 +11,7 @@ use Rattle.rtps_capture.specs.declared.read_fault.ReadFault.{ReadFault}
 use Rattle.rtps_tool.specs.Forms as forms
 use Rattle.rtps_tool.specs.declared.faults.RunFault.{RunFault}
 use Rattle.rtps_tool.specs.declared.form.capture_blocks.Stop.{Stop}
-use Rattle.rtps_tool.specs.declared.form.capture_blocks.WholeCapture.{WholeCapture}
+use Rattle.rtps_tool.specs.declared.form.whole_capture.WholeCapture.{WholeCapture}
 use Rattle.rtps_tool.specs.declared.runs.Limits.{Limits}
 
 -- These octets were read, which begin a capture: what a reader had in front, and what it has now.
@@ -69,7 +69,6 @@ pub record TakesAll (limits : Limits) (captures : Captures) (before now : Option
   pub size : whole.octets ≡ length text
   pub within : length text ≤ limits.octets
   pub told : course.course_of captures limits.datagrams text ≡ record { datagrams = datagrams; end = Ok whole.summary }
-  pub few : course.ignored_of whole.summary < 2 ^ 64
 
 -- memory was refused, which says nothing of the capture
 abbrev pub is_memory : CaptureFault → Bool

@@ -1,9 +1,8 @@
 -- A capture that is read more than once, and a run of it. own: a report on a long capture is made without keeping its datagrams, which are
 -- read again for what the first reading does not tell; where the octets of the input are known, this changes nothing of what is written.
-use Rattle.std.specs.Prelude.{ℕ, ◌≡◌, ◌≤◌, true, List, length, Option, Some, None, Result, Ok, Err, string_bytes}
+use Rattle.std.specs.Prelude.{ℕ, ◌==◌, ◌≡◌, ◌≤◌, ◌&&◌, Bool, false, true, List, length, Option, Some, None, Result, Ok, Err}
 use Rattle.std.specs.Io.KnownBytes.{Appends, Keeps}
 use Rattle.std.specs.Hash.DefaultHasher as sip
-use Rattle.std.specs.declared.string.String.{String}
 use Rattle.rtps_capture.specs.Course as course
 use Rattle.rtps_capture.specs.declared.captures.Captures.{Captures}
 use Rattle.rtps_report.specs.Recording as recording
@@ -12,7 +11,7 @@ use Rattle.rtps_tool.specs.Forms as forms
 use Rattle.rtps_tool.specs.Runs as runs
 use Rattle.rtps_tool.specs.Sums as sums
 use Rattle.rtps_tool.specs.declared.faults.RunFault.{RunFault}
-use Rattle.rtps_tool.specs.declared.form.capture_blocks.WholeCapture.{WholeCapture}
+use Rattle.rtps_tool.specs.declared.form.whole_capture.WholeCapture.{WholeCapture}
 use Rattle.rtps_tool.specs.declared.passes.first_pass.FirstPass.{FirstPass}
 use Rattle.rtps_tool.specs.declared.runs.Limits.{Limits}
 
@@ -28,6 +27,12 @@ pub record IsWholeOf (limits : Limits) (captures : Captures) (all : List ℕ) (w
   pub size : whole.octets ≡ length all
   pub ends : (course.course_of captures limits.datagrams all).end ≡ Ok whole.summary
 
+-- what one pass over these octets answers: what was found of a capture, all of whose datagrams were taken, or that it is none; `Took` says
+-- that these were
+abbrev pub IsFoundOf : Limits → Captures → List ℕ → (List course.DatagramValue → Type 0) → Option WholeCapture → Type 0
+IsFoundOf limits captures all Took None = 4 ≤ length all → forms.begins_capture captures all ≡ true → ⊥
+IsFoundOf limits captures all Took (Some whole) = IsWholeOf limits captures all whole × Took (datagrams_of limits captures all)
+
 -- the same, by the first pass
 abbrev pub datagrams_in : FirstPass → List ℕ → List course.DatagramValue
 datagrams_in first all = datagrams_of first.terms.limits first.terms.captures all
@@ -41,26 +46,43 @@ pub record IsFirstOf (all : List ℕ) (first : FirstPass) : Type 0 where
   pub whole : IsWholeOf first.terms.limits first.terms.captures all first.whole
   pub sum : first.sum ≡ sip.finish (sums.sum_of sip.initial (datagrams_in first all))
 
+-- another pass found as many octets, and datagrams with the same sum
+abbrev pub is_found_again : FirstPass → Option WholeCapture → ℕ → Bool
+is_found_again first None sum = false
+is_found_again first (Some whole) sum = whole.octets == first.whole.octets && sum == first.sum
+
+-- a fault that is met behind the first pass: what was a recording then has changed
+abbrev pub fault_again : RunFault → RunFault
+fault_again (RunFault.Recording fault) = RunFault.Changed
+fault_again RunFault.Input = RunFault.Input
+fault_again (RunFault.Output written) = RunFault.Output written
+fault_again RunFault.Memory = RunFault.Memory
+fault_again RunFault.Changed = RunFault.Changed
+
 -- an input of these octets is not read, for such a fault
 abbrev pub FailsOn : Limits → Captures → List ℕ → RunFault → Type 0
 FailsOn limits captures all fault = (left : Option (List ℕ)) × runs.FailsReading limits captures (Some all) left fault
 
 -- nothing was written before such a fault
 abbrev pub IsReadFault : RunFault → Type 0
+IsReadFault (RunFault.Recording fault) = Unit {0}
+IsReadFault RunFault.Input = Unit {0}
 IsReadFault (RunFault.Output written) = ⊥
-IsReadFault fault = Unit {0}
+IsReadFault RunFault.Memory = Unit {0}
+IsReadFault RunFault.Changed = Unit {0}
 
--- a text of the recording that these octets are, and how a run ends that writes it, where there is one
-abbrev pub Tells : Limits → Captures → (recording.RecordingValue → List ℕ → Ending → Type 0) → List ℕ → Option (String × Ending) → Type 0
-Tells limits captures IsPrinted all None = Unit {0}
-Tells limits captures IsPrinted all (Some told) =
-    (recording : recording.RecordingValue) × (forms.recording_within limits captures all ≡ Ok recording) × IsPrinted recording (string_bytes told.0) told.1
+-- a text of the recording that these octets are, and how a run ends that writes it
+abbrev pub Tells : Limits → Captures → (recording.RecordingValue → List ℕ → Ending → Type 0) → (all text : List ℕ) → Ending → Type 0
+Tells limits captures IsPrinted all text ending = (recording : recording.RecordingValue) × (forms.recording_within limits captures all ≡ Ok recording) × IsPrinted recording text ending
 
 -- whatever was read, some text was written, or there was a fault before that, or a write failed
 abbrev pub Writes : (held holds : Option (List ℕ)) → Result Ending RunFault → Type 0
 Writes held holds (Ok ending) = (text : List ℕ) × Appends held holds text
 Writes held holds (Err (RunFault.Output written)) = (text : List ℕ) × runs.FailsWriting held holds text (RunFault.Output written)
-Writes held holds (Err fault) = Keeps held holds
+Writes held holds (Err (RunFault.Recording fault)) = Keeps held holds
+Writes held holds (Err RunFault.Input) = Keeps held holds
+Writes held holds (Err RunFault.Memory) = Keeps held holds
+Writes held holds (Err RunFault.Changed) = Keeps held holds
 
 -- A run of a source. Where its octets are known, it is a run that reads them; so it is never told that they changed.
 abbrev pub RunsSource : Limits → Captures → (recording.RecordingValue → List ℕ → Ending → Type 0) → (octets held holds : Option (List ℕ)) → Result Ending RunFault → Type 0

@@ -6,3 +6,4 @@ pub(crate) mod either;
 pub(crate) mod hex_lines;
 pub(crate) mod line_reader;
 pub(crate) mod taking;
+pub(crate) mod whole_capture;

@@ -1,6 +1,6 @@
 //! Runs that read a capture more than once, and keep no datagram of it.
 
-ghost use Rattle.std.specs.Prelude.{ℕ, ◌≡◌, List, None, Some, IfErr, MatchResult};
+ghost use Rattle.std.specs.Prelude.{ℕ, ◌≡◌, List, None, Some, IfErr, IfSome, MatchResult, string_bytes};
 ghost use Rattle.rtps_audit.specs.Delivered as delivered;
 ghost use Rattle.rtps_audit.specs.Intake as intake_spec;
 ghost use Rattle.rtps_audit.specs.Speech as speech;
@@ -8,7 +8,6 @@ ghost use Rattle.rtps_discovery.specs.Directory as directory_spec;
 ghost use Rattle.rtps_passes.specs.Judging as judging_spec;
 ghost use Rattle.rtps_passes.specs.Survey as survey_spec;
 ghost use Rattle.rtps_receiver.specs.Values as values;
-ghost use Rattle.rtps_report.specs.Asked as asked_spec;
 ghost use Rattle.rtps_text.specs.ListText as list_text_spec;
 ghost use Rattle.rtps_text.specs.ReportText as report_text_spec;
 ghost use Rattle.rtps_tool.specs.CaptureBlocks as capture_blocks;
@@ -82,7 +81,7 @@ fn passes_text<R: Read, S: Source<R>, P: Watch + Follow>(
 ) -> Result<Option<(String, Ending)>, RunFault>
     ensures known { (all : List ℕ) → S.octets source.now ≡ Some all
         → MatchResult result
-        (passes_spec.Tells options.now.limits options.now.captures (commands.IsTextOf (commands.command_value options.now.command) None) all)
+        (λ found. IfSome found (λ told. passes_spec.Tells options.now.limits options.now.captures (commands.IsTextOf (commands.command_value options.now.command) None) all (string_bytes told.0) told.1))
         (passes_spec.FailsOn options.now.limits options.now.captures all) }
     ensures fault { IfErr result passes_spec.IsReadFault }
 {
@@ -109,7 +108,7 @@ fn list_by_passes<R: Read, S: Source<R>, P: Follow>(
     watch: &mut P,
 ) -> Result<Option<(String, Ending)>, RunFault>
     ensures known { (all : List ℕ) → S.octets source.now ≡ Some all
-        → MatchResult result (passes_spec.Tells terms.limits terms.captures list_text_spec.IsListed all) (passes_spec.FailsOn terms.limits terms.captures all) }
+        → MatchResult result (λ found. IfSome found (λ told. passes_spec.Tells terms.limits terms.captures list_text_spec.IsListed all (string_bytes told.0) told.1)) (passes_spec.FailsOn terms.limits terms.captures all) }
     ensures fault { IfErr result passes_spec.IsReadFault }
 {
     course_is_told();
@@ -118,7 +117,7 @@ fn list_by_passes<R: Read, S: Source<R>, P: Follow>(
     let Some(first) = first_pass(terms, source, reader, &mut pass)? else {
         return Ok(None);
     };
-    watch.recorded(Some(first.ignored()));
+    watch.recorded(Some(first.whole.ignored()));
     let survey = &pass.taker.survey;
     let text = directory_text(terms.alloc, survey.directory(), survey.faults())?;
     Ok(Some((text, Ending::Clean)))
@@ -133,7 +132,7 @@ fn audit_by_passes<R: Read, S: Source<R>, P: Follow>(
     watch: &mut P,
 ) -> Result<Option<(String, Ending)>, RunFault>
     ensures known { (all : List ℕ) → S.octets source.now ≡ Some all
-        → MatchResult result (passes_spec.Tells terms.limits terms.captures (report_text_spec.IsAuditedFrom from) all) (passes_spec.FailsOn terms.limits terms.captures all) }
+        → MatchResult result (λ found. IfSome found (λ told. passes_spec.Tells terms.limits terms.captures (report_text_spec.IsAuditedFrom from) all (string_bytes told.0) told.1)) (passes_spec.FailsOn terms.limits terms.captures all) }
     ensures fault { IfErr result passes_spec.IsReadFault }
 {
     course_is_told();
@@ -144,10 +143,10 @@ fn audit_by_passes<R: Read, S: Source<R>, P: Follow>(
     let Some(first) = first_pass(terms, source, reader, &mut pass)? else {
         return Ok(None);
     };
-    watch.recorded(Some(first.ignored()));
+    watch.recorded(Some(first.whole.ignored()));
     let survey = &pass.taker.survey;
     let report = report_again(first, from, source, reader, survey)?;
-    let told = report_text(terms.alloc, &report, Some(first.ignored()))?;
+    let told = report_text(terms.alloc, &report, Some(first.whole.ignored()))?;
     Ok(Some(told))
 }
 

@@ -9,10 +9,11 @@ ghost use Rattle.rtps_tool.specs.Runs as runs;
 use crate::faults::{RecFault, RunFault};
 use crate::form::collected::Collected;
 use crate::form::taking::Take;
+use crate::form::whole_capture::WholeCapture;
 use crate::runs::Limits;
 use crate::streams::{read_on, zeros};
 use rtps_capture::laws::course_is_told;
-use rtps_capture::{CaptureFault, CaptureReader, Captures, Opened, ReadFault, Summary, Wanted};
+use rtps_capture::{CaptureFault, CaptureReader, Captures, Opened, ReadFault, Wanted};
 use rtps_report::Recording;
 use std::alloc::Global;
 use std::io::Read;
@@ -26,15 +27,6 @@ pub(crate) struct Stop {
     read: u64,
     ended: bool,
     fault: CaptureFault,
-}
-
-/// A capture whose datagrams were all read.
-#[derive(Clone, Copy)]
-pub(crate) struct WholeCapture {
-    /// What is told of its frames.
-    pub(crate) summary: Summary,
-    /// How many octets it has.
-    pub(crate) octets: u64,
 }
 
 /// How captures are read.

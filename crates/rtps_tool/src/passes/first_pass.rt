@@ -1,7 +1,8 @@
-ghost use Rattle.std.specs.Prelude.{◌≡◌, ◌<◌, ◌^◌};
-ghost use Rattle.rtps_capture.specs.Course as course;
+ghost use Rattle.std.specs.Prelude.{◌≡◌};
+ghost use Rattle.rtps_tool.specs.Passes as passes_spec;
 
-use crate::form::capture_blocks::{CaptureTerms, WholeCapture};
+use crate::form::capture_blocks::CaptureTerms;
+use crate::form::whole_capture::WholeCapture;
 
 /// A capture that was read once: how, what was found, and the sum over its datagrams.
 #[derive(Clone, Copy)]
@@ -9,15 +10,16 @@ pub(crate) struct FirstPass {
     pub(crate) terms: CaptureTerms,
     pub(crate) whole: WholeCapture,
     pub(crate) sum: u64,
-    ghost few: { course.ignored_of whole.summary < 2 ^ 64 },
 }
 
 impl FirstPass {
-    /// How many frames gave no datagram.
-    pub(crate) fn ignored(&self) -> u64
-        ensures { result ≡ course.ignored_of self.now.whole.summary }
+    /// Whether another pass found as many octets, and datagrams with the same sum.
+    pub(crate) fn is_found_again(&self, found: Option<WholeCapture>, sum: u64) -> bool
+        ensures { result ≡ passes_spec.is_found_again self.now found sum }
     {
-        let summary = self.whole.summary;
-        summary.pieces + summary.cut + summary.other + summary.links
+        match found {
+            Some(whole) => whole.octets == self.whole.octets && sum == self.sum,
+            None => false,
+        }
     }
 }

@@ -7,13 +7,15 @@ ghost use Rattle.rtps_tool.specs.Passes as passes_spec;
 ghost use Rattle.rtps_tool.specs.declared.faults.RunFault.TheVariants.{Input};
 
 use crate::faults::RunFault;
-use crate::form::capture_blocks::{CaptureTerms, WholeCapture, take_capture};
+use crate::form::capture_blocks::{CaptureTerms, take_capture};
 use crate::form::either::begins_capture;
 use crate::form::taking::Take;
+use crate::form::whole_capture::WholeCapture;
 use crate::passes::first_pass::FirstPass;
 use crate::passes::pass::Pass;
 use crate::source::Source;
 use crate::streams::{FORM, HELD, read_start, zeros};
+use rtps_capture::laws::course_is_told;
 use std::io::Read;
 
 /// Has a reader read a source from its start, for a pass of this number.
@@ -38,7 +40,7 @@ fn read_pass<R: Read, T: Take>(
 ) -> Result<Option<WholeCapture>, RunFault>
     ensures known { (all : List ℕ) (start : T) → R.remaining input.old ≡ Some all → T.has_taken start [] taker.old
         → MatchResult result
-        (λ found. IfSome found (λ whole. passes_spec.IsWholeOf terms.limits terms.captures all whole × T.has_taken start (passes_spec.datagrams_of terms.limits terms.captures all) taker.new))
+        (passes_spec.IsFoundOf terms.limits terms.captures all (λ datagrams. T.has_taken start datagrams taker.new))
         (passes_spec.FailsOn terms.limits terms.captures all) }
     ensures fault { IfErr result passes_spec.IsReadFault }
 {
@@ -87,11 +89,27 @@ pub(crate) fn read_again<R: Read, S: Source<R>, T: Take>(
         → MatchResult result (λ _. T.has_taken start (passes_spec.datagrams_in first all) pass.new.taker) capture_blocks.IsNoRecFault }
     ensures fault { IfErr result passes_spec.IsReadFault }
 {
+    course_is_told();
     rewind(source, reader, pass.number)?;
-    let mut input = reader.by_ref().take(first.whole.octets);
+    let mut input = reader.take(first.whole.octets);
     match read_pass(first.terms, &mut input, pass) {
-        Ok(Some(whole)) if whole.octets == first.whole.octets && pass.sum() == first.sum => Ok(()),
-        Ok(_) | Err(RunFault::Recording(_)) => Err(RunFault::Changed),
-        Err(fault) => Err(fault),
+        Ok(found) => {
+            if first.is_found_again(found, pass.sum()) {
+                Ok(())
+            } else {
+                Err(RunFault::Changed)
+            }
+        }
+        Err(fault) => Err(fault_again(fault)),
+    }
+}
+
+/// What is told of a fault behind the first pass.
+fn fault_again(fault: RunFault) -> RunFault
+    ensures { result ≡ passes_spec.fault_again fault }
+{
+    match fault {
+        RunFault::Recording(_) => RunFault::Changed,
+        _ => fault,
     }
 }

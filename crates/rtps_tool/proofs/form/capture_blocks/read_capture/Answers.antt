@@ -5,6 +5,9 @@ use Rattle.rtps_tool.specs.RecordingCapture as recording_capture
 use Rattle.rtps_tool.proofs.BlocksLemmas.{whole_reads}
 use Rattle.rtps_tool.proofs.form.capture_blocks.read_capture.Goals as goal
 
+pub recording-requires : goal.recording-requires
+recording-requires g c = c.in_ok-whole.whole.few
+
 pub returns-in_err-whole : goal.returns-in_err-whole
 returns-in_err-whole g c = λ before taken.
     let p = err_from_is_err_and c.from_residual.result c.from_residual.ensures.1 in

@@ -14,7 +14,7 @@ returns-in-Ok-2 g c = λ before start so was.
     let reader = c.take_all.new.reader in
     let few : reader.frames.held.read ≤ c.args.terms.limits.octets = omega (arith, c.octets_read.ensures, c.if-octets_read-limits.false) in
     takes_all c.args.terms.limits c.args.terms.captures before (g.R.Read.remaining c.take_all.new.input) reader (λ (datagrams : List course.DatagramValue). g.T.Take.has_taken start datagrams c.take_all.new.taker)
-    (record { summary = c.summary.result; octets = c.octets_read-in-Ok-2.result }) c.summary.ensures.told c.octets_read-in-Ok-2.ensures c.summary.ensures.few few done
+    (record { summary = c.summary.result; octets = c.octets_read-in-Ok-2.result; few = c.summary.ensures.few }) c.summary.ensures.told c.octets_read-in-Ok-2.ensures few done
 
 pub returns-in-Err : goal.returns-in-Err
 returns-in-Err g c = λ before start so was. c.fault_told.ensures c.args.terms.captures before (c.in-Err.ensures c.args.terms.captures before [] start so was)

@@ -1,0 +1,237 @@
+-- A capture that is read again gives the same, where its octets are known.
+use Rattle.std.proofs.Common.{◌≡◌, ◌≤◌, ◌<◌, ◌++◌, ◌∷◌, [], ℕ, false, true, true≢false, List, length, map, refl, sym, ap, subst, ◌∙◌, append-nil, arith}
+use Rattle.std.specs.Prelude.{None, Option, Some, Result, Ok, Err}
+use Rattle.std.specs.Io.KnownBytes.{Appends, Consumes, IsAtEnd, Keeps}
+use Rattle.std.specs.Hash.DefaultHasher as sip
+use Rattle.std.specs.declared.hash.DefaultHasher.{DefaultHasher}
+use Rattle.std.proofs.lemmas.List.{length-append, map-append}
+use Rattle.std.proofs.lemmas.List.Elements.{All-weaker}
+use Rattle.std.proofs.lemmas.List.Folds.{flat_map-map, fold-append}
+use Rattle.rtps_wire.specs.Reading as reading
+use Rattle.rtps_wire.specs.Tally as tally_spec
+use Rattle.rtps_wire.specs.declared.counts.Tally.{Tally}
+use Rattle.rtps_receiver.specs.Acts as acts_spec
+use Rattle.rtps_receiver.specs.Values as values
+use Rattle.rtps_audit.specs.Delivered as delivered
+use Rattle.rtps_audit.specs.Intake as intake_spec
+use Rattle.rtps_audit.specs.Report as report_spec
+use Rattle.rtps_audit.specs.RunVerdict as run_verdict
+use Rattle.rtps_audit.specs.Speech as speech
+use Rattle.rtps_audit.specs.declared.report.Report.{Report}
+use Rattle.rtps_audit.specs.declared.report.Row.{Row}
+use Rattle.rtps_fragments.specs.Laws as fragments_laws
+use Rattle.rtps_fragments.specs.SampleReport as sample_report
+use Rattle.rtps_capture.specs.Agreement as agreement
+use Rattle.rtps_capture.specs.Course as course
+use Rattle.rtps_capture.specs.declared.captures.Captures.{Captures}
+use Rattle.rtps_report.specs.Recording as recording
+use Rattle.rtps_report.specs.declared.findings.Ending.{Ending}
+use Rattle.rtps_tool.specs.CaptureBlocks as blocks
+use Rattle.rtps_tool.specs.Collected as collected_spec
+use Rattle.rtps_tool.specs.Forms as forms
+use Rattle.rtps_tool.specs.Passes as passes
+use Rattle.rtps_tool.specs.RecordingCapture as recording_capture
+use Rattle.rtps_tool.specs.Runs as runs
+use Rattle.rtps_tool.specs.Sums as sums
+use Rattle.rtps_tool.specs.declared.faults.RecFault.{RecFault}
+use Rattle.rtps_tool.specs.declared.faults.RunFault.{RunFault}
+use Rattle.rtps_tool.specs.declared.form.whole_capture.WholeCapture.{WholeCapture}
+use Rattle.rtps_tool.specs.declared.passes.first_pass.FirstPass.{FirstPass}
+use Rattle.rtps_tool.specs.declared.runs.Limits.{Limits}
+use Rattle.rtps_tool.proofs.BlocksLemmas.{whole_told}
+use Rattle.rtps_tool.proofs.RunsLemmas.{all_read}
+use Rattle.rtps_tool.proofs.UnfinishedLemmas.{begins_capture-append, recording_of-capture}
+
+-- ---- what is told of a datagram more
+
+-- the sum over one more
+pub sum_more : (start : DefaultHasher) (before : List course.DatagramValue) (one : course.DatagramValue) (now : DefaultHasher)
+    → now ≡ sums.sum_of start before → sums.sum_with now one ≡ sums.sum_of start (before ++ one ∷ [])
+sum_more start before one now was = ap (λ (sum : DefaultHasher). sums.sum_with sum one) was ∙ sym (fold-append sums.sum_with start before (one ∷ []))
+
+octets_more : (before : List course.DatagramValue) (one : course.DatagramValue) → sums.octets_of (before ++ one ∷ []) ≡ sums.octets_of before ++ one.octets ∷ []
+octets_more before one = map-append (λ (one : course.DatagramValue). one.octets) before (one ∷ [])
+
+-- its acts
+pub acts_more : (before : List course.DatagramValue) (one : course.DatagramValue) (acts : List values.ActValue) → acts ≡ acts_spec.acts_of (reading.reading_of one.octets)
+    → speech.acts_by_datagram (sums.octets_of before) ++ acts ∷ [] ≡ speech.acts_by_datagram (sums.octets_of (before ++ one ∷ []))
+acts_more before one acts is =
+    ap (λ (acts : List values.ActValue). speech.acts_by_datagram (sums.octets_of before) ++ acts ∷ []) is
+    ∙ sym (map-append (λ (octets : List ℕ). acts_spec.acts_of (reading.reading_of octets)) (sums.octets_of before) (one.octets ∷ []))
+    ∙ ap speech.acts_by_datagram (sym (octets_more before one))
+
+-- and its tally
+pub intake_more : (before : List course.DatagramValue) (one : course.DatagramValue) (tally : Tally) (acts : List values.ActValue)
+    → tally ≡ tally_spec.tally_of (reading.reading_of one.octets) → acts ≡ acts_spec.acts_of (reading.reading_of one.octets)
+    → intake_spec.intake_more (intake_spec.intake_of (sums.octets_of before)) tally acts acts ≡ intake_spec.intake_of (sums.octets_of (before ++ one ∷ []))
+intake_more before one tally acts tallied said =
+    let told = acts_more before one acts said in
+    let tallies = λ (octets : List ℕ). tally_spec.tally_of (reading.reading_of octets) in
+    let counted = ap (λ (t : Tally). map tallies (sums.octets_of before) ++ t ∷ []) tallied ∙ sym (map-append tallies (sums.octets_of before) (one.octets ∷ [])) ∙ ap (map tallies) (sym (octets_more before one)) in
+    λ i. record { tallies = counted i; acts = told i; announcing = told i }
+
+-- ---- all of a capture
+
+-- all of it was read
+pub whole_of : (limits : Limits) (captures : Captures) (all : List ℕ) (before now : Option (List ℕ)) (Took : List course.DatagramValue → Type 0) (whole : WholeCapture) → before ≡ Some all
+    → blocks.TakesAll limits captures before now Took whole → passes.IsWholeOf limits captures all whole × Took (passes.datagrams_of limits captures all)
+whole_of limits captures all before now Took whole known takes =
+    let taken : Consumes (Some all) now takes.text = subst (λ (b : Option (List ℕ)). Consumes b now takes.text) known takes.began.taken in
+    let same : takes.text ≡ all = all_read all now takes.text taken takes.at_end in
+    let size : length takes.text ≡ length all = ap (λ (l : List ℕ). length l) same in
+    let told = sym (ap (course.course_of captures limits.datagrams) same) ∙ takes.told in (
+      record {
+        long = omega (arith, takes.began.begun, size);
+        begins = sym (ap (forms.begins_capture captures) same) ∙ takes.began.form;
+        within = omega (arith, takes.within, size);
+        size = takes.size ∙ size;
+        ends = ap (λ (c : course.Course). c.end) told;
+      },
+      subst Took (sym (ap (λ (c : course.Course). c.datagrams) told)) takes.took,
+    )
+
+-- what was read of it came first
+pub front_of : (all : List ℕ) (before now : Option (List ℕ)) (text : List ℕ) → before ≡ Some all → Consumes before now text → (rest : List ℕ) × (all ≡ text ++ rest)
+front_of all before now text known taken = by now (subst (λ (b : Option (List ℕ)). Consumes b now text) known taken)
+  where
+    by : (now : Option (List ℕ)) → Consumes (Some all) now text → (rest : List ℕ) × (all ≡ text ++ rest)
+    by None taken = absurd taken
+    by (Some rest) taken = (rest, taken)
+
+-- it ended before its form was told
+pub is_short : (captures : Captures) (all : List ℕ) (before now : Option (List ℕ)) (text : List ℕ) → before ≡ Some all → Consumes before now text → (length text < 4 → IsAtEnd now) → length text < 4
+    → 4 ≤ length all → forms.begins_capture captures all ≡ true → ⊥
+is_short captures all before now text known taken end short long begins =
+    let same : text ≡ all = all_read all now text (subst (λ (b : Option (List ℕ)). Consumes b now text) known taken) (end short) in
+    let size : length text ≡ length all = ap (λ (l : List ℕ). length l) same in
+    absurd (omega (arith, short, long, size))
+
+-- it does not begin so
+pub is_other : (captures : Captures) (all : List ℕ) (before now : Option (List ℕ)) (text : List ℕ) → before ≡ Some all → Consumes before now text → 4 ≤ length text → forms.begins_capture captures text ≡ false
+    → 4 ≤ length all → forms.begins_capture captures all ≡ true → ⊥
+is_other captures all before now text known taken long other _ begins =
+    let front = front_of all before now text known taken in
+    let same : forms.begins_capture captures all ≡ forms.begins_capture captures text = ap (forms.begins_capture captures) front.1 ∙ begins_capture-append captures text front.0 long in
+    true≢false (sym begins ∙ same ∙ other)
+
+-- it stands for a recording
+pub whole_recording : agreement.CourseIsTold → (limits : Limits) (captures : Captures) (all : List ℕ) (whole : WholeCapture) → passes.IsWholeOf limits captures all whole
+    → forms.recording_within limits captures all ≡ Ok (recording_capture.recording_collected captures (collected_spec.collected_of (passes.datagrams_of limits captures all)) whole.summary)
+whole_recording law limits captures all whole is =
+    recording_of-capture limits captures all is.within is.begins
+    ∙ whole_told law captures limits.datagrams all (passes.datagrams_of limits captures all) whole.summary
+    (ap (λ (end : Result _ _). let told : course.Course = record { datagrams = passes.datagrams_of limits captures all; end = end } in told) is.ends)
+
+-- so it has no fault
+pub no_fault : agreement.CourseIsTold → (limits : Limits) (captures : Captures) (all : List ℕ) (whole : WholeCapture) (fault : RecFault) → passes.IsWholeOf limits captures all whole
+    → passes.FailsOn limits captures all (RunFault.Recording fault) → ⊥
+no_fault law limits captures all whole fault is (left, fails) =
+    let front = front_of all (Some all) left fails.text refl fails.reads.taken in
+    let size : length fails.text ≤ length all = omega (arith, ap (λ (l : List ℕ). length l) front.1, length-append fails.text front.0) in
+    let same : fails.text ≡ all = all_read all left fails.text fails.reads.taken (fails.reads.whole (omega (arith, size, is.within))) in
+    let told = whole_recording law limits captures all whole is in
+    let faulty = ap (forms.recording_within limits captures) (sym same) ∙ fails.faulty in
+    absurd cc
+
+-- and a fault behind the first pass is of reading alone
+pub fails_again : agreement.CourseIsTold → (all : List ℕ) (first : FirstPass) (fault : RunFault) → passes.IsFirstOf all first → passes.FailsOn first.terms.limits first.terms.captures all fault
+    → blocks.IsNoRecFault (passes.fault_again fault)
+fails_again law all first (RunFault.Recording fault) is fails = absurd (no_fault law first.terms.limits first.terms.captures all first.whole fault is.whole fails)
+fails_again law all first RunFault.Input is fails = tt
+fails_again law all first (RunFault.Output written) is fails = absurd fails.1
+fails_again law all first RunFault.Memory is fails = tt
+fails_again law all first RunFault.Changed is fails = absurd fails.1
+
+pub read_fault_again : (fault : RunFault) → passes.IsReadFault fault → passes.IsReadFault (passes.fault_again fault)
+read_fault_again (RunFault.Recording fault) is = tt
+read_fault_again RunFault.Input is = tt
+read_fault_again (RunFault.Output written) is = is
+read_fault_again RunFault.Memory is = tt
+read_fault_again RunFault.Changed is = tt
+
+-- what is found again was taken
+pub found_again : (all : List ℕ) (first : FirstPass) (Took : List course.DatagramValue → Type 0) (found : Option WholeCapture) (sum : ℕ)
+    → passes.IsFoundOf first.terms.limits first.terms.captures all Took found → passes.is_found_again first found sum ≡ true → Took (passes.datagrams_in first all)
+found_again all first Took None sum is same = absurd (true≢false (sym same))
+found_again all first Took (Some whole) sum is same = is.1
+
+-- and it is found again
+pub not_changed : (all : List ℕ) (first : FirstPass) (Took : List course.DatagramValue → Type 0) (state : DefaultHasher) (found : Option WholeCapture) (sum : ℕ) → passes.IsFirstOf all first
+    → passes.IsFoundOf first.terms.limits first.terms.captures all (λ datagrams. Took datagrams × (state ≡ sums.sum_of sip.initial datagrams)) found → sum ≡ sip.finish state
+    → passes.is_found_again first found sum ≡ false → ⊥
+not_changed all first Took state None sum is found summed differs = found is.whole.long is.whole.begins
+not_changed all first Took state (Some whole) sum is found summed differs =
+    let octets : whole.octets ≡ first.whole.octets = found.0.size ∙ sym is.whole.size in
+    let same : sum ≡ first.sum = summed ∙ ap sip.finish found.1.1 ∙ sym is.sum in
+    let both : passes.is_found_again first (Some whole) sum ≡ true = rw (octets, same) (grind arith) in
+    true≢false (sym both ∙ differs)
+
+-- the acts of its datagrams
+pub acts_together : (octets : List (List ℕ)) → intake_spec.acts_together (speech.acts_by_datagram octets) ≡ acts_spec.acts_in octets
+acts_together octets = flat_map-map (λ (acts : List values.ActValue). acts) (λ (datagram : List ℕ). acts_spec.acts_of (reading.reading_of datagram)) octets
+
+-- where no act sends fragments, the report by the acts as they are sent is the one by what each reader hears
+pub plain_report : fragments_laws.ActsAreHeardWithoutFragments → (from : ℕ) (intake : intake_spec.Intake) (report : Report) → fragments_laws.SendNoFragments intake.acts → report_spec.IsReportBy from intake report → sample_report.IsReportHeard from intake report
+plain_report stay from intake report none is = record {
+  directory = is.directory;
+  is_map = is.is_map;
+  pairs = is.pairs;
+  judged = All-weaker (report_spec.IsJudgedFrom from intake.acts) (sample_report.IsHeardFrom from intake.acts)
+      (λ (row : Row) judged. subst (λ (acts : List (List values.ActValue)). run_verdict.IsVerdictFrom from (speech.speech_by row.pair.writer row.pair.reader acts) row.verdict) (sym (stay row.pair.reader intake.acts none)) judged) report.rows.items is.judged;
+  counts = is.counts;
+}
+
+-- ---- a run
+
+-- a run of known octets ends well
+pub tells_run : (limits : Limits) (captures : Captures) (IsPrinted : recording.RecordingValue → List ℕ → Ending → Type 0) (octets held holds : Option (List ℕ)) (text : List ℕ) (ending : Ending) → Appends held holds text
+    → ((all : List ℕ) → octets ≡ Some all → passes.Tells limits captures IsPrinted all text ending) → passes.RunsSource limits captures IsPrinted octets held holds (Ok ending)
+tells_run limits captures IsPrinted None held holds text ending wrote told = (text, wrote)
+tells_run limits captures IsPrinted (Some all) held holds text ending wrote told =
+    let is = told all refl in
+    (Some [], (is.0, text, record { text = all; taken = sym (append-nil all); whole = refl; is_read = is.1 }, is.2, wrote))
+
+-- or a write fails
+pub writing_fails : (limits : Limits) (captures : Captures) (IsPrinted : recording.RecordingValue → List ℕ → Ending → Type 0) (octets held holds : Option (List ℕ)) (text : List ℕ) (ending : Ending) (fault : RunFault)
+    → runs.FailsWriting held holds text fault → ((all : List ℕ) → octets ≡ Some all → passes.Tells limits captures IsPrinted all text ending) → passes.RunsSource limits captures IsPrinted octets held holds (Err fault)
+writing_fails limits captures IsPrinted None held holds text ending (RunFault.Output written) fails told = (text, fails)
+writing_fails limits captures IsPrinted (Some all) held holds text ending (RunFault.Output written) fails told =
+    let is = told all refl in
+    (Some [], (is.0, text, ending, record { text = all; taken = sym (append-nil all); whole = refl; is_read = is.1 }, is.2, fails))
+writing_fails limits captures IsPrinted octets held holds text ending (RunFault.Recording fault) fails told = absurd fails
+writing_fails limits captures IsPrinted octets held holds text ending RunFault.Input fails told = absurd fails
+writing_fails limits captures IsPrinted octets held holds text ending RunFault.Memory fails told = absurd fails
+writing_fails limits captures IsPrinted octets held holds text ending RunFault.Changed fails told = absurd fails
+
+-- or reading does
+pub reading_fails : (limits : Limits) (captures : Captures) (IsPrinted : recording.RecordingValue → List ℕ → Ending → Type 0) (octets held holds : Option (List ℕ)) (fault : RunFault) → Keeps held holds → passes.IsReadFault fault
+    → ((all : List ℕ) → octets ≡ Some all → passes.FailsOn limits captures all fault) → passes.RunsSource limits captures IsPrinted octets held holds (Err fault)
+reading_fails limits captures IsPrinted None held holds (RunFault.Recording fault) keeps before fails = keeps
+reading_fails limits captures IsPrinted None held holds RunFault.Input keeps before fails = keeps
+reading_fails limits captures IsPrinted None held holds RunFault.Memory keeps before fails = keeps
+reading_fails limits captures IsPrinted None held holds RunFault.Changed keeps before fails = keeps
+reading_fails limits captures IsPrinted None held holds (RunFault.Output written) keeps before fails = absurd before
+reading_fails limits captures IsPrinted (Some all) held holds (RunFault.Recording fault) keeps before fails = let is = fails all refl in (is.0, (is.1, keeps))
+reading_fails limits captures IsPrinted (Some all) held holds RunFault.Input keeps before fails = let is = fails all refl in (is.0, keeps)
+reading_fails limits captures IsPrinted (Some all) held holds RunFault.Memory keeps before fails = let is = fails all refl in (is.0, keeps)
+reading_fails limits captures IsPrinted (Some all) held holds RunFault.Changed keeps before fails = absurd (fails all refl).1
+reading_fails limits captures IsPrinted (Some all) held holds (RunFault.Output written) keeps before fails = absurd before
+
+-- a run that reads once
+pub runs_once : (limits : Limits) (captures : Captures) (IsPrinted : recording.RecordingValue → List ℕ → Ending → Type 0) (octets unread left held holds : Option (List ℕ)) (result : Result Ending RunFault) → unread ≡ octets
+    → runs.RunsWithin limits captures IsPrinted unread left held holds result → passes.RunsSource limits captures IsPrinted octets held holds result
+runs_once limits captures IsPrinted (Some all) unread left held holds result same is = (left, subst (λ (u : Option (List ℕ)). runs.RunsWithin limits captures IsPrinted u left held holds result) same is)
+runs_once limits captures IsPrinted None unread left held holds (Ok ending) same is = (is.1, is.4)
+runs_once limits captures IsPrinted None unread left held holds (Err (RunFault.Recording fault)) same is = is.1
+runs_once limits captures IsPrinted None unread left held holds (Err RunFault.Input) same is = is
+runs_once limits captures IsPrinted None unread left held holds (Err (RunFault.Output written)) same is = (is.1, is.5)
+runs_once limits captures IsPrinted None unread left held holds (Err RunFault.Memory) same is = is
+runs_once limits captures IsPrinted None unread left held holds (Err RunFault.Changed) same is = absurd is
+
+-- a fault behind the first pass over known octets
+pub again_fails : (limits : Limits) (captures : Captures) (all : List ℕ) (fault : RunFault) → blocks.IsNoRecFault fault → passes.FailsOn limits captures all fault
+again_fails limits captures all RunFault.Input is = (None, tt)
+again_fails limits captures all RunFault.Memory is = (None, tt)
+again_fails limits captures all (RunFault.Recording fault) is = absurd is
+again_fails limits captures all (RunFault.Output written) is = absurd is
+again_fails limits captures all RunFault.Changed is = absurd is
