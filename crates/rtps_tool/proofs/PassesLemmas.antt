@@ -1,5 +1,5 @@
 -- A capture that is read again gives the same, where its octets are known.
-use Rattle.std.proofs.Common.{◌≡◌, ◌≤◌, ◌<◌, ◌++◌, ◌∷◌, [], ℕ, false, true, true≢false, List, length, map, refl, sym, ap, subst, ◌∙◌, append-nil, arith}
+use Rattle.std.proofs.Common.{◌≡◌, ◌≤◌, ◌<◌, ◌++◌, ◌∷◌, [], ℕ, Bool, false, true, true≢false, List, length, map, refl, sym, ap, subst, ◌∙◌, append-nil, arith}
 use Rattle.std.specs.Prelude.{None, Option, Some, Result, Ok, Err}
 use Rattle.std.specs.Io.KnownBytes.{Appends, Consumes, IsAtEnd, Keeps}
 use Rattle.std.specs.Hash.DefaultHasher as sip
@@ -29,18 +29,22 @@ use Rattle.rtps_report.specs.declared.findings.Ending.{Ending}
 use Rattle.rtps_tool.specs.CaptureBlocks as blocks
 use Rattle.rtps_tool.specs.Collected as collected_spec
 use Rattle.rtps_tool.specs.Forms as forms
+use Rattle.rtps_tool.specs.Lines as lines
 use Rattle.rtps_tool.specs.Passes as passes
 use Rattle.rtps_tool.specs.RecordingCapture as recording_capture
+use Rattle.rtps_tool.specs.RecordingText as recording_text
 use Rattle.rtps_tool.specs.Runs as runs
 use Rattle.rtps_tool.specs.Sums as sums
+use Rattle.rtps_tool.specs.Unfinished as unfinished
 use Rattle.rtps_tool.specs.declared.faults.RecFault.{RecFault}
 use Rattle.rtps_tool.specs.declared.faults.RunFault.{RunFault}
+use Rattle.rtps_tool.specs.declared.form.whole.Whole.{Whole}
 use Rattle.rtps_tool.specs.declared.form.whole_capture.WholeCapture.{WholeCapture}
 use Rattle.rtps_tool.specs.declared.passes.first_pass.FirstPass.{FirstPass}
 use Rattle.rtps_tool.specs.declared.runs.Limits.{Limits}
 use Rattle.rtps_tool.proofs.BlocksLemmas.{whole_told}
 use Rattle.rtps_tool.proofs.RunsLemmas.{all_read}
-use Rattle.rtps_tool.proofs.UnfinishedLemmas.{begins_capture-append, recording_of-capture}
+use Rattle.rtps_tool.proofs.UnfinishedLemmas.{octets_of-untimed, recording_of-capture, recording_of-text}
 
 -- ---- what is told of a datagram more
 
@@ -74,20 +78,36 @@ intake_more before one tally acts tallied said =
 
 -- all of it was read
 pub whole_of : (limits : Limits) (captures : Captures) (all : List ℕ) (before now : Option (List ℕ)) (Took : List course.DatagramValue → Type 0) (whole : WholeCapture) → before ≡ Some all
-    → blocks.TakesAll limits captures before now Took whole → passes.IsWholeOf limits captures all whole × Took (passes.datagrams_of limits captures all)
+    → blocks.TakesAll limits captures before now Took whole → passes.IsFoundOf limits captures all Took (Whole.Capture whole)
 whole_of limits captures all before now Took whole known takes =
     let taken : Consumes (Some all) now takes.text = subst (λ (b : Option (List ℕ)). Consumes b now takes.text) known takes.began.taken in
     let same : takes.text ≡ all = all_read all now takes.text taken takes.at_end in
     let size : length takes.text ≡ length all = ap (λ (l : List ℕ). length l) same in
-    let told = sym (ap (course.course_of captures limits.datagrams) same) ∙ takes.told in (
+    let told = sym (ap (course.course_of captures limits.datagrams) same) ∙ takes.told in
+    let begins : forms.begins_capture captures all ≡ true = sym (ap (forms.begins_capture captures) same) ∙ takes.began.form in
+    let datagrams = ap (λ (is : Bool). passes.datagrams_in_form is limits captures all) begins ∙ ap (λ (c : course.Course). c.datagrams) told in (
       record {
-        long = omega (arith, takes.began.begun, size);
-        begins = sym (ap (forms.begins_capture captures) same) ∙ takes.began.form;
+        begins = begins;
         within = omega (arith, takes.within, size);
         size = takes.size ∙ size;
         ends = ap (λ (c : course.Course). c.end) told;
       },
-      subst Took (sym (ap (λ (c : course.Course). c.datagrams) told)) takes.took,
+      subst Took (sym datagrams) takes.took,
+    )
+
+-- all of a text was
+pub text_of : (limits : Limits) (captures : Captures) (all : List ℕ) (before now : Option (List ℕ)) (Took : List course.DatagramValue → Type 0) (octets : ℕ) → before ≡ Some all
+    → unfinished.TakesText limits captures before now Took octets → passes.IsFoundOf limits captures all Took (Whole.Text octets)
+text_of limits captures all before now Took octets known takes =
+    let taken : Consumes (Some all) now takes.text = subst (λ (b : Option (List ℕ)). Consumes b now takes.text) known takes.taken in
+    let same : takes.text ≡ all = all_read all now takes.text taken takes.at_end in
+    let size : length takes.text ≡ length all = ap (λ (l : List ℕ). length l) same in
+    let told = sym (ap (λ (text : List ℕ). recording_text.recording_of_lines limits.datagrams 1 0 (lines.lines_of text)) same) ∙ takes.told in
+    let plain : forms.begins_capture captures all ≡ false = sym (ap (forms.begins_capture captures) same) ∙ takes.plain in
+    let datagrams = ap (λ (is : Bool). passes.datagrams_in_form is limits captures all) plain
+    ∙ ap (λ (found : Result (List (List ℕ)) RecFault). recording_text.untimed (passes.datagrams_or_none found)) told in (
+      record { plain = plain; within = omega (arith, takes.within, size); size = takes.size ∙ size; datagrams = takes.datagrams; told = told },
+      subst Took (sym datagrams) takes.took,
     )
 
 -- what was read of it came first
@@ -98,38 +118,52 @@ front_of all before now text known taken = by now (subst (λ (b : Option (List �
     by None taken = absurd taken
     by (Some rest) taken = (rest, taken)
 
--- it ended before its form was told
-pub is_short : (captures : Captures) (all : List ℕ) (before now : Option (List ℕ)) (text : List ℕ) → before ≡ Some all → Consumes before now text → (length text < 4 → IsAtEnd now) → length text < 4
-    → 4 ≤ length all → forms.begins_capture captures all ≡ true → ⊥
-is_short captures all before now text known taken end short long begins =
-    let same : text ≡ all = all_read all now text (subst (λ (b : Option (List ℕ)). Consumes b now text) known taken) (end short) in
-    let size : length text ≡ length all = ap (λ (l : List ℕ). length l) same in
-    absurd (omega (arith, short, long, size))
-
--- it does not begin so
-pub is_other : (captures : Captures) (all : List ℕ) (before now : Option (List ℕ)) (text : List ℕ) → before ≡ Some all → Consumes before now text → 4 ≤ length text → forms.begins_capture captures text ≡ false
-    → 4 ≤ length all → forms.begins_capture captures all ≡ true → ⊥
-is_other captures all before now text known taken long other _ begins =
-    let front = front_of all before now text known taken in
-    let same : forms.begins_capture captures all ≡ forms.begins_capture captures text = ap (forms.begins_capture captures) front.1 ∙ begins_capture-append captures text front.0 long in
-    true≢false (sym begins ∙ same ∙ other)
+-- a recording of these octets, as it was found
+pub record StandsFor (limits : Limits) (captures : Captures) (all : List ℕ) (whole : Whole) : Type 0 where
+  pub recording : recording.RecordingValue
+  pub is : forms.recording_within limits captures all ≡ Ok recording
+  pub datagrams : recording.datagrams ≡ sums.octets_of (passes.datagrams_of limits captures all)
+  pub ignored : recording.ignored ≡ passes.ignored_in whole
 
 -- it stands for a recording
-pub whole_recording : agreement.CourseIsTold → (limits : Limits) (captures : Captures) (all : List ℕ) (whole : WholeCapture) → passes.IsWholeOf limits captures all whole
-    → forms.recording_within limits captures all ≡ Ok (recording_capture.recording_collected captures (collected_spec.collected_of (passes.datagrams_of limits captures all)) whole.summary)
-whole_recording law limits captures all whole is =
-    recording_of-capture limits captures all is.within is.begins
-    ∙ whole_told law captures limits.datagrams all (passes.datagrams_of limits captures all) whole.summary
-    (ap (λ (end : Result _ _). let told : course.Course = record { datagrams = passes.datagrams_of limits captures all; end = end } in told) is.ends)
+pub whole_recording : agreement.CourseIsTold → (limits : Limits) (captures : Captures) (all : List ℕ) (whole : Whole) → passes.IsAllOf limits captures all whole → StandsFor limits captures all whole
+whole_recording law limits captures all (Whole.Capture whole) is =
+    let datagrams = (course.course_of captures limits.datagrams all).datagrams in
+    record {
+      recording = recording_capture.recording_collected captures (collected_spec.collected_of datagrams) whole.summary;
+      is = recording_of-capture limits captures all is.within is.begins
+          ∙ whole_told law captures limits.datagrams all datagrams whole.summary
+          (ap (λ (end : Result _ _). let told : course.Course = record { datagrams = datagrams; end = end } in told) is.ends);
+      datagrams = ap (λ (form : Bool). sums.octets_of (passes.datagrams_in_form form limits captures all)) (sym is.begins);
+      ignored = refl;
+    }
+whole_recording law limits captures all (Whole.Text octets) is =
+    let found = λ (found : Result (List (List ℕ)) RecFault). sums.octets_of (recording_text.untimed (passes.datagrams_or_none found)) in
+    record {
+      recording = recording_text.unframed is.datagrams;
+      is = recording_of-text limits captures all is.within is.plain ∙ ap recording_text.without_frames is.told;
+      datagrams = sym (ap (λ (form : Bool). sums.octets_of (passes.datagrams_in_form form limits captures all)) is.plain ∙ ap found is.told ∙ octets_of-untimed is.datagrams);
+      ignored = refl;
+    }
+
+-- how long it is
+pub size_of_whole : (limits : Limits) (captures : Captures) (all : List ℕ) (whole : Whole) → passes.IsAllOf limits captures all whole → passes.size_of whole ≡ length all
+size_of_whole limits captures all (Whole.Capture whole) is = is.size
+size_of_whole limits captures all (Whole.Text octets) is = is.size
+
+pub within_of_whole : (limits : Limits) (captures : Captures) (all : List ℕ) (whole : Whole) → passes.IsAllOf limits captures all whole → length all ≤ limits.octets
+within_of_whole limits captures all (Whole.Capture whole) is = is.within
+within_of_whole limits captures all (Whole.Text octets) is = is.within
 
 -- so it has no fault
-pub no_fault : agreement.CourseIsTold → (limits : Limits) (captures : Captures) (all : List ℕ) (whole : WholeCapture) (fault : RecFault) → passes.IsWholeOf limits captures all whole
+pub no_fault : agreement.CourseIsTold → (limits : Limits) (captures : Captures) (all : List ℕ) (whole : Whole) (fault : RecFault) → passes.IsAllOf limits captures all whole
     → passes.FailsOn limits captures all (RunFault.Recording fault) → ⊥
 no_fault law limits captures all whole fault is (left, fails) =
     let front = front_of all (Some all) left fails.text refl fails.reads.taken in
     let size : length fails.text ≤ length all = omega (arith, ap (λ (l : List ℕ). length l) front.1, length-append fails.text front.0) in
-    let same : fails.text ≡ all = all_read all left fails.text fails.reads.taken (fails.reads.whole (omega (arith, size, is.within))) in
-    let told = whole_recording law limits captures all whole is in
+    let within = within_of_whole limits captures all whole is in
+    let same : fails.text ≡ all = all_read all left fails.text fails.reads.taken (fails.reads.whole (omega (arith, size, within))) in
+    let told = (whole_recording law limits captures all whole is).is in
     let faulty = ap (forms.recording_within limits captures) (sym same) ∙ fails.faulty in
     absurd cc
 
@@ -149,21 +183,15 @@ read_fault_again (RunFault.Output written) is = is
 read_fault_again RunFault.Memory is = tt
 read_fault_again RunFault.Changed is = tt
 
--- what is found again was taken
-pub found_again : (all : List ℕ) (first : FirstPass) (Took : List course.DatagramValue → Type 0) (found : Option WholeCapture) (sum : ℕ)
-    → passes.IsFoundOf first.terms.limits first.terms.captures all Took found → passes.is_found_again first found sum ≡ true → Took (passes.datagrams_in first all)
-found_again all first Took None sum is same = absurd (true≢false (sym same))
-found_again all first Took (Some whole) sum is same = is.1
-
 -- and it is found again
-pub not_changed : (all : List ℕ) (first : FirstPass) (Took : List course.DatagramValue → Type 0) (state : DefaultHasher) (found : Option WholeCapture) (sum : ℕ) → passes.IsFirstOf all first
-    → passes.IsFoundOf first.terms.limits first.terms.captures all (λ datagrams. Took datagrams × (state ≡ sums.sum_of sip.initial datagrams)) found → sum ≡ sip.finish state
-    → passes.is_found_again first found sum ≡ false → ⊥
-not_changed all first Took state None sum is found summed differs = found is.whole.long is.whole.begins
-not_changed all first Took state (Some whole) sum is found summed differs =
-    let octets : whole.octets ≡ first.whole.octets = found.0.size ∙ sym is.whole.size in
+pub not_changed : (all : List ℕ) (first : FirstPass) (Took : List course.DatagramValue → Type 0) (state : DefaultHasher) (whole : Whole) (sum : ℕ) → passes.IsFirstOf all first
+    → passes.IsFoundOf first.terms.limits first.terms.captures all (λ datagrams. Took datagrams × (state ≡ sums.sum_of sip.initial datagrams)) whole → sum ≡ sip.finish state
+    → passes.is_found_again first whole sum ≡ false → ⊥
+not_changed all first Took state whole sum is found summed differs =
+    let octets : passes.size_of whole ≡ passes.size_of first.whole =
+        size_of_whole first.terms.limits first.terms.captures all whole found.0 ∙ sym (size_of_whole first.terms.limits first.terms.captures all first.whole is.whole) in
     let same : sum ≡ first.sum = summed ∙ ap sip.finish found.1.1 ∙ sym is.sum in
-    let both : passes.is_found_again first (Some whole) sum ≡ true = rw (octets, same) (grind arith) in
+    let both : passes.is_found_again first whole sum ≡ true = rw (octets, same) (grind arith) in
     true≢false (sym both ∙ differs)
 
 -- the acts of its datagrams

@@ -211,3 +211,13 @@ pub line_within : (text later line : List ℕ) (from end : ℕ) → position lin
 line_within text later line from end found is =
     rw is (lines_of-append (drop from text) later end found
     ∙ ap (λ (left : List ℕ). strip_carriage_return (take end (drop from text)) ∷ lines_spec.lines_of (left ++ later)) (drop-drop (end + 1) from text))
+
+-- all lines of a text were read
+pub all_lines : (most : ℕ) (done : List (List ℕ)) (old : LineReader) (text whole : List ℕ) (Told : List course.DatagramValue → Type 0) (read : Result Unit RecFault)
+    → unfinished.recording_behind most done old.lines text ≡ recording_text.recording_of_lines most 1 0 (lines_spec.lines_of whole)
+    → MatchResult read (λ _. unfinished.IsReadWhole most done old text Told) (outcomes.IsFaultOf (unfinished.recording_behind most done old.lines text))
+    → MatchResult read
+    (λ _. (all : List (List ℕ)) × (recording_text.recording_of_lines most 1 0 (lines_spec.lines_of whole) ≡ Ok all) × Told (recording_text.untimed all))
+    (outcomes.IsFaultOf (recording_text.recording_of_lines most 1 0 (lines_spec.lines_of whole)))
+all_lines most done old text whole Told (Ok u) same is = (is.all, sym same ∙ is.stands, is.told)
+all_lines most done old text whole Told (Err fault) same faulty = subst (λ (defined : Result (List (List ℕ)) RecFault). outcomes.IsFaultOf defined fault) same faulty

@@ -6,4 +6,5 @@ pub(crate) mod either;
 pub(crate) mod hex_lines;
 pub(crate) mod line_reader;
 pub(crate) mod taking;
+pub(crate) mod whole;
 pub(crate) mod whole_capture;

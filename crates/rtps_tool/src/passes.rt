@@ -1,4 +1,4 @@
-//! Runs that read a capture more than once, and keep no datagram of it.
+//! Runs that read a recording more than once, and keep no datagram of it.
 
 ghost use Rattle.std.specs.Prelude.{ℕ, ◌≡◌, List, None, Some, IfErr, IfSome, MatchResult, string_bytes};
 ghost use Rattle.rtps_audit.specs.Delivered as delivered;
@@ -41,7 +41,7 @@ use rtps_text::{directory_text, report_text};
 use std::alloc::Global;
 use std::io::{Read, Write};
 
-/// [`run`] of a source, which may be read more than once: of a capture that is listed or audited as lines, without fragments, no datagram is
+/// [`run`] of a source, which may be read more than once: of a recording that is listed or audited as lines, without fragments, no datagram is
 /// kept. What is written of a source whose octets are known, and how the run ends, is what [`run`] promises of these octets. A pass reads no
 /// more octets than the first one did. Where it finds other datagrams than that, [`RunFault::Changed`] is answered. It tells what was read,
 /// and how far an audit is.
@@ -71,7 +71,7 @@ pub fn run_passes<R: Read, S: Source<R>, W: Write, P: Watch + Follow>(
     }
 }
 
-/// What is printed by passes over a source, and how the run ends. None where it is no capture, or the command is none that goes by passes.
+/// What is printed by passes over a source, and how the run ends. None where the command is none that goes by passes.
 fn passes_text<R: Read, S: Source<R>, P: Watch + Follow>(
     alloc: Global,
     options: &Options<'_>,
@@ -94,45 +94,45 @@ fn passes_text<R: Read, S: Source<R>, P: Watch + Follow>(
         Command::Audit(AskedAudit {
             from,
             fragments: Fragments::Skipped,
-        }) => audit_by_passes(terms, from, source, reader, watch),
-        Command::List(Fragments::Skipped) => list_by_passes(terms, source, reader, watch),
+        }) => Ok(Some(audit_by_passes(terms, from, source, reader, watch)?)),
+        Command::List(Fragments::Skipped) => {
+            Ok(Some(list_by_passes(terms, source, reader, watch)?))
+        }
         _ => Ok(None),
     }
 }
 
-/// What `list` prints of a source, and that it ends [`Ending::Clean`]. None where it is no capture.
+/// What `list` prints of a source, and that it ends [`Ending::Clean`].
 fn list_by_passes<R: Read, S: Source<R>, P: Follow>(
     terms: CaptureTerms,
     source: &S,
     reader: &mut R,
     watch: &mut P,
-) -> Result<Option<(String, Ending)>, RunFault>
+) -> Result<(String, Ending), RunFault>
     ensures known { (all : List ℕ) → S.octets source.now ≡ Some all
-        → MatchResult result (λ found. IfSome found (λ told. passes_spec.Tells terms.limits terms.captures list_text_spec.IsListed all (string_bytes told.0) told.1)) (passes_spec.FailsOn terms.limits terms.captures all) }
+        → MatchResult result (λ told. passes_spec.Tells terms.limits terms.captures list_text_spec.IsListed all (string_bytes told.0) told.1) (passes_spec.FailsOn terms.limits terms.captures all) }
     ensures fault { IfErr result passes_spec.IsReadFault }
 {
     course_is_told();
     let names = Bump::new(terms.alloc);
     let mut pass = Pass::new(1, Surveyed::new(terms.alloc, &names));
-    let Some(first) = first_pass(terms, source, reader, &mut pass)? else {
-        return Ok(None);
-    };
-    watch.recorded(Some(first.whole.ignored()));
+    let first = first_pass(terms, source, reader, &mut pass)?;
+    watch.recorded(first.whole.ignored());
     let survey = &pass.taker.survey;
     let text = directory_text(terms.alloc, survey.directory(), survey.faults())?;
-    Ok(Some((text, Ending::Clean)))
+    Ok((text, Ending::Clean))
 }
 
-/// What `audit` prints of a source by the numbers from `from` on, and how it ends. None where it is no capture.
+/// What `audit` prints of a source by the numbers from `from` on, and how it ends.
 fn audit_by_passes<R: Read, S: Source<R>, P: Follow>(
     terms: CaptureTerms,
     from: SeqNum,
     source: &S,
     reader: &mut R,
     watch: &mut P,
-) -> Result<Option<(String, Ending)>, RunFault>
+) -> Result<(String, Ending), RunFault>
     ensures known { (all : List ℕ) → S.octets source.now ≡ Some all
-        → MatchResult result (λ found. IfSome found (λ told. passes_spec.Tells terms.limits terms.captures (report_text_spec.IsAuditedFrom from) all (string_bytes told.0) told.1)) (passes_spec.FailsOn terms.limits terms.captures all) }
+        → MatchResult result (λ told. passes_spec.Tells terms.limits terms.captures (report_text_spec.IsAuditedFrom from) all (string_bytes told.0) told.1) (passes_spec.FailsOn terms.limits terms.captures all) }
     ensures fault { IfErr result passes_spec.IsReadFault }
 {
     course_is_told();
@@ -140,17 +140,15 @@ fn audit_by_passes<R: Read, S: Source<R>, P: Follow>(
     acts_are_heard_without_fragments();
     let names = Bump::new(terms.alloc);
     let mut pass = Pass::new(1, Surveyed::new(terms.alloc, &names));
-    let Some(first) = first_pass(terms, source, reader, &mut pass)? else {
-        return Ok(None);
-    };
-    watch.recorded(Some(first.whole.ignored()));
+    let first = first_pass(terms, source, reader, &mut pass)?;
+    watch.recorded(first.whole.ignored());
     let survey = &pass.taker.survey;
     let report = report_again(first, from, source, reader, survey)?;
-    let told = report_text(terms.alloc, &report, Some(first.whole.ignored()))?;
-    Ok(Some(told))
+    let told = report_text(terms.alloc, &report, first.whole.ignored())?;
+    Ok(told)
 }
 
-/// The report on a capture, by the passes behind the first one.
+/// The report on a recording, by the passes behind the first one.
 fn report_again<R: Read, S: Source<R>>(
     first: FirstPass,
     from: SeqNum,

@@ -9,6 +9,7 @@ ghost use Rattle.rtps_tool.specs.declared.faults.RunFault.TheVariants.{Input};
 use crate::faults::{RecFault, RunFault};
 use crate::form::capture_blocks::{CaptureTerms, read_capture};
 use crate::form::either::{begins_capture, read_recording_within};
+use crate::form::hex_lines::take_lines;
 use crate::form::line_reader::{KEPT_MAX, LineReader};
 use crate::form::taking::Take;
 use crate::runs::Limits;
@@ -111,6 +112,27 @@ fn read_text_input<R: Read>(
     let mut list = DatagramList::new(terms.alloc);
     let _ = take_text(terms, input, held, start, &mut list)?;
     Ok(Recording::of_text(terms.alloc, list))
+}
+
+/// Tells a taker the datagrams of a text of these octets, which are all the input and too few to begin a capture. Answers how many octets
+/// there are. After an `Err` the taker is of no use.
+pub(crate) fn take_short<T: Take>(
+    terms: CaptureTerms,
+    octets: &[u8],
+    taker: &mut T,
+) -> Result<u64, RunFault>
+    requires { length octets.now < 4 }
+    ensures { (before now : Option (List ℕ)) (first : T) → Consumes before now octets.now → IsAtEnd now → T.has_taken first [] taker.old
+        → MatchResult result
+        (unfinished.TakesText terms.limits terms.captures before now (λ datagrams. T.has_taken first datagrams taker.new))
+        (runs.FailsReading terms.limits terms.captures before now) }
+{
+    let size = octets.len() as u64;
+    if size > terms.limits.octets {
+        return Err(RunFault::Recording(RecFault::TooMany));
+    }
+    take_lines(terms.alloc, terms.limits.datagrams, octets, taker)?;
+    Ok(size)
 }
 
 /// Tells a taker the datagrams of a text, by way of what is held of it: so many octets were read. Answers how many octets there are. After an

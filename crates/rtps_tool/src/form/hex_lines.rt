@@ -1,4 +1,4 @@
-ghost use Rattle.std.specs.Prelude.{◌≡◌, ◌≤◌, [], length, take, is_ok, None, Ok, IfOk, IsTrue, MatchResult};
+ghost use Rattle.std.specs.Prelude.{◌≡◌, ◌≤◌, [], ℕ, List, length, take, is_ok, None, Ok, IfOk, IsTrue, MatchResult};
 ghost use Rattle.std.specs.List.{position};
 ghost use Rattle.std.specs.Str.Lines.{strip_carriage_return};
 ghost use Rattle.hex.specs.Hex.{decode_of};
@@ -52,10 +52,25 @@ pub(crate) fn read_text(alloc: Global, most: u64, text: &[u8]) -> Result<Recordi
         (outcomes.IsFaultOf (recording_text.recording_of_text most text.now)) }
 {
     let mut list = DatagramList::new(alloc);
-    let mut reader = LineReader::new(alloc);
-    let from = reader.read_complete(most, text, 0, &mut list)?;
-    reader.finish(most, &text[from..], &mut list)?;
+    take_lines(alloc, most, text, &mut list)?;
     Ok(Recording::of_text(alloc, list))
+}
+
+/// Tells a taker the datagrams of a text, of which there may be so many. After an `Err` the taker is of no use.
+pub(crate) fn take_lines<T: Take>(
+    alloc: Global,
+    most: u64,
+    text: &[u8],
+    taker: &mut T,
+) -> Result<(), RecFault>
+    ensures { (first : T) → T.has_taken first [] taker.old
+        → let defined = recording_text.recording_of_lines most 1 0 (lines.lines_of text.now) in MatchResult result
+        (λ _. (all : List (List ℕ)) × (defined ≡ Ok all) × T.has_taken first (recording_text.untimed all) taker.new)
+        (outcomes.IsFaultOf defined) }
+{
+    let mut reader = LineReader::new(alloc);
+    let from = reader.read_complete(most, text, 0, taker)?;
+    reader.finish(most, &text[from..], taker)
 }
 
 impl Take for DatagramList {

@@ -2,24 +2,21 @@ ghost use Rattle.std.specs.Prelude.{◌≡◌};
 ghost use Rattle.rtps_tool.specs.Passes as passes_spec;
 
 use crate::form::capture_blocks::CaptureTerms;
-use crate::form::whole_capture::WholeCapture;
+use crate::form::whole::Whole;
 
-/// A capture that was read once: how, what was found, and the sum over its datagrams.
+/// A recording that was read once: how, what was found, and the sum over its datagrams.
 #[derive(Clone, Copy)]
 pub(crate) struct FirstPass {
     pub(crate) terms: CaptureTerms,
-    pub(crate) whole: WholeCapture,
+    pub(crate) whole: Whole,
     pub(crate) sum: u64,
 }
 
 impl FirstPass {
     /// Whether another pass found as many octets, and datagrams with the same sum.
-    pub(crate) fn is_found_again(&self, found: Option<WholeCapture>, sum: u64) -> bool
+    pub(crate) fn is_found_again(&self, found: Whole, sum: u64) -> bool
         ensures { result ≡ passes_spec.is_found_again self.now found sum }
     {
-        match found {
-            Some(whole) => whole.octets == self.whole.octets && sum == self.sum,
-            None => false,
-        }
+        found.octets() == self.whole.octets() && sum == self.sum
     }
 }

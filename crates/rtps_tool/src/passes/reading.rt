@@ -1,6 +1,6 @@
-//! A capture that is read again from its start.
+//! A recording that is read again from its start.
 
-ghost use Rattle.std.specs.Prelude.{ℕ, ◌≡◌, [], List, Some, IfErr, IfSome, MatchResult};
+ghost use Rattle.std.specs.Prelude.{ℕ, ◌≡◌, [], List, Some, IfErr, MatchResult};
 ghost use Rattle.std.specs.Hash.DefaultHasher as sip;
 ghost use Rattle.rtps_tool.specs.CaptureBlocks as capture_blocks;
 ghost use Rattle.rtps_tool.specs.Passes as passes_spec;
@@ -10,11 +10,11 @@ use crate::faults::RunFault;
 use crate::form::capture_blocks::{CaptureTerms, take_capture};
 use crate::form::either::begins_capture;
 use crate::form::taking::Take;
-use crate::form::whole_capture::WholeCapture;
+use crate::form::whole::Whole;
 use crate::passes::first_pass::FirstPass;
 use crate::passes::pass::Pass;
 use crate::source::Source;
-use crate::streams::{FORM, HELD, read_start, zeros};
+use crate::streams::{FORM, HELD, read_start, take_short, take_text, zeros};
 use rtps_capture::laws::course_is_told;
 use std::io::Read;
 
@@ -32,12 +32,12 @@ pub(crate) fn rewind<R: Read, S: Source<R>>(
     }
 }
 
-/// Tells a taker the datagrams of an input. None where it is no capture.
+/// Tells a taker the datagrams of an input.
 fn read_pass<R: Read, T: Take>(
     terms: CaptureTerms,
     input: &mut R,
     taker: &mut T,
-) -> Result<Option<WholeCapture>, RunFault>
+) -> Result<Whole, RunFault>
     ensures known { (all : List ℕ) (start : T) → R.remaining input.old ≡ Some all → T.has_taken start [] taker.old
         → MatchResult result
         (passes_spec.IsFoundOf terms.limits terms.captures all (λ datagrams. T.has_taken start datagrams taker.new))
@@ -46,35 +46,38 @@ fn read_pass<R: Read, T: Take>(
 {
     let mut held = zeros(terms.alloc, HELD)?;
     let start = read_start(input, &mut held)?;
-    if start < FORM || !begins_capture(terms.captures, &held[..start]) {
-        return Ok(None);
+    if start < FORM {
+        let octets = take_short(terms, &held[..start], taker)?;
+        return Ok(Whole::Text(octets));
+    }
+    if !begins_capture(terms.captures, &held[..start]) {
+        let octets = take_text(terms, input, &mut held, start, taker)?;
+        return Ok(Whole::Text(octets));
     }
     let whole = take_capture(terms, input, &held[..start], taker)?;
-    Ok(Some(whole))
+    Ok(Whole::Capture(whole))
 }
 
-/// The first pass over a source. None where it is no capture.
+/// The first pass over a source.
 pub(crate) fn first_pass<R: Read, S: Source<R>, T: Take>(
     terms: CaptureTerms,
     source: &S,
     reader: &mut R,
     pass: &mut Pass<T>,
-) -> Result<Option<FirstPass>, RunFault>
+) -> Result<FirstPass, RunFault>
     ensures known { (all : List ℕ) (start : T) → S.octets source.now ≡ Some all → pass.old.sum ≡ sip.initial → T.has_taken start [] pass.old.taker
         → MatchResult result
-        (λ found. IfSome found (λ first. (first.terms ≡ terms) × passes_spec.IsFirstOf all first × T.has_taken start (passes_spec.datagrams_in first all) pass.new.taker))
+        (λ first. (first.terms ≡ terms) × passes_spec.IsFirstOf all first × T.has_taken start (passes_spec.datagrams_in first all) pass.new.taker)
         (passes_spec.FailsOn terms.limits terms.captures all) }
     ensures fault { IfErr result passes_spec.IsReadFault }
 {
     rewind(source, reader, pass.number)?;
-    let Some(whole) = read_pass(terms, reader, pass)? else {
-        return Ok(None);
-    };
-    Ok(Some(FirstPass {
+    let whole = read_pass(terms, reader, pass)?;
+    Ok(FirstPass {
         terms,
         whole,
         sum: pass.sum(),
-    }))
+    })
 }
 
 /// A pass behind the first one, over as many octets as that one read. Where it does not find the same datagrams, the source has changed.
@@ -91,7 +94,7 @@ pub(crate) fn read_again<R: Read, S: Source<R>, T: Take>(
 {
     course_is_told();
     rewind(source, reader, pass.number)?;
-    let mut input = reader.take(first.whole.octets);
+    let mut input = reader.take(first.whole.octets());
     match read_pass(first.terms, &mut input, pass) {
         Ok(found) => {
             if first.is_found_again(found, pass.sum()) {
