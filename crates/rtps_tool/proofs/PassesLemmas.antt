@@ -1,12 +1,14 @@
 -- A capture that is read again gives the same, where its octets are known.
-use Rattle.std.proofs.Common.{◌≡◌, ◌≤◌, ◌<◌, ◌++◌, ◌∷◌, [], ℕ, false, true, true≢false, List, length, map, refl, sym, ap, subst, ◌∙◌, append-nil, arith}
+use Rattle.std.proofs.Common.{◌≡◌, ◌≤◌, ◌<◌, ◌++◌, ◌∷◌, [], ℕ, false, true, true≢false, List, length, map, take, refl, sym, ap, subst, ◌∙◌, append-nil, arith}
 use Rattle.std.specs.Prelude.{None, Option, Some, Result, Ok, Err}
+use Rattle.std.specs.Option.{option_map}
 use Rattle.std.specs.Io.KnownBytes.{Appends, Consumes, IsAtEnd, Keeps}
 use Rattle.std.specs.Hash.DefaultHasher as sip
 use Rattle.std.specs.declared.hash.DefaultHasher.{DefaultHasher}
-use Rattle.std.proofs.lemmas.List.{length-append, map-append}
+use Rattle.std.proofs.lemmas.List.{length-append, length-take, map-append, take_all}
 use Rattle.std.proofs.lemmas.List.Elements.{All-weaker}
-use Rattle.std.proofs.lemmas.List.Folds.{flat_map-map, fold-append}
+use Rattle.std.proofs.lemmas.List.Folds.{flat_map-map}
+use Rattle.std.proofs.lemmas.List.Sums.{fold-append}
 use Rattle.rtps_wire.specs.Reading as reading
 use Rattle.rtps_wire.specs.Tally as tally_spec
 use Rattle.rtps_wire.specs.declared.counts.Tally.{Tally}
@@ -99,12 +101,13 @@ front_of all before now text known taken = by now (subst (λ (b : Option (List �
     by (Some rest) taken = (rest, taken)
 
 -- it ended before its form was told
-pub is_short : (captures : Captures) (all : List ℕ) (before now : Option (List ℕ)) (text : List ℕ) → before ≡ Some all → Consumes before now text → (length text < 4 → IsAtEnd now) → length text < 4
+pub is_short : (captures : Captures) (all : List ℕ) (before now : Option (List ℕ)) (n : ℕ) (held : List ℕ) → before ≡ Some all → Consumes before now (take n held) → (n < 4 → IsAtEnd now) → n < 4
     → 4 ≤ length all → forms.begins_capture captures all ≡ true → ⊥
-is_short captures all before now text known taken end short long begins =
+is_short captures all before now n held known taken end short long begins =
+    let text = take n held in
     let same : text ≡ all = all_read all now text (subst (λ (b : Option (List ℕ)). Consumes b now text) known taken) (end short) in
     let size : length text ≡ length all = ap (λ (l : List ℕ). length l) same in
-    absurd (omega (arith, short, long, size))
+    absurd (omega (arith, short, long, size, length-take n held))
 
 -- it does not begin so
 pub is_other : (captures : Captures) (all : List ℕ) (before now : Option (List ℕ)) (text : List ℕ) → before ≡ Some all → Consumes before now text → 4 ≤ length text → forms.begins_capture captures text ≡ false
@@ -148,6 +151,18 @@ read_fault_again RunFault.Input is = tt
 read_fault_again (RunFault.Output written) is = is
 read_fault_again RunFault.Memory is = tt
 read_fault_again RunFault.Changed is = tt
+
+-- so many octets of it are all
+pub all_within : (n : ℕ) (all : List ℕ) (left : Option (List ℕ)) → left ≡ Some all → length all ≤ n → option_map (take n) left ≡ Some all
+all_within n all left known few = ap (option_map (take n)) known ∙ ap Some (take_all n all few)
+
+-- whatever was read, nothing was written
+pub nothing_written : (limits : Limits) (captures : Captures) (before now : Option (List ℕ)) (fault : RunFault) → runs.FailsReading limits captures before now fault → passes.IsReadFault fault
+nothing_written limits captures before now (RunFault.Recording fault) is = tt
+nothing_written limits captures before now RunFault.Input is = tt
+nothing_written limits captures before now (RunFault.Output written) is = is
+nothing_written limits captures before now RunFault.Memory is = tt
+nothing_written limits captures before now RunFault.Changed is = absurd is
 
 -- what is found again was taken
 pub found_again : (all : List ℕ) (first : FirstPass) (Took : List course.DatagramValue → Type 0) (found : Option WholeCapture) (sum : ℕ)

@@ -46,7 +46,10 @@ fn read_pass<R: Read, T: Take>(
 {
     let mut held = zeros(terms.alloc, HELD)?;
     let start = read_start(input, &mut held)?;
-    if start < FORM || !begins_capture(terms.captures, &held[..start]) {
+    if start < FORM {
+        return Ok(None);
+    }
+    if !begins_capture(terms.captures, &held[..start]) {
         return Ok(None);
     }
     let whole = take_capture(terms, input, &held[..start], taker)?;
