@@ -5,7 +5,7 @@ use crate::word::{add_range, add_told};
 use rtps_coverage::Coverage;
 use rtps_discovery::Pair;
 use rtps_ids::Memory;
-use rtps_receiver::Spoken;
+use rtps_receiver::{SaidNumbers, Spoken};
 use std::alloc::Global;
 
 /// What one reader has of one writer, as far as a recording has come: what it was told, and what its answers claim.
@@ -23,6 +23,7 @@ impl<C: Coverage> Account<C> {
     ghost use Rattle.std.specs.Prelude.{ℕ, ◌≡◌, ◌≤◌, ◌<◌, ◌++◌, ◌∷◌, [], true, List, IfOk, OnOk};
     ghost use Rattle.std.specs.List.{All};
     ghost use Rattle.rtps_ids.specs.declared.identity.Guid.{Guid as GuidValue};
+    ghost use Rattle.rtps_receiver.specs.Said as said_spec;
     ghost use Rattle.rtps_receiver.specs.Values as values;
     ghost use Rattle.rtps_audit.specs.Account as account_spec;
     ghost use Rattle.rtps_audit.specs.Placed as placed;
@@ -55,11 +56,11 @@ impl<C: Coverage> Account<C> {
         self.claims.note_answer(answer, front);
     }
 
-    /// Whether an act has a payload of a number that the reader was told of.
-    fn had_payload_of(&self, act: &Spoken<'_>) -> bool
-        ensures { (n : ℕ) → account_spec.ComesAgain C.covered (values.spoken_value act.now) self.now n → result ≡ true }
+    /// Whether an act that says this has a payload of a number that the reader was told of.
+    fn had_payload_of(&self, said: &SaidNumbers<'_, '_>) -> bool
+        ensures { (act : values.ActValue) (n : ℕ) → said_spec.Says (said_spec.said act.body) said.now → account_spec.ComesAgain C.covered act self.now n → result ≡ true }
     {
-        match act.said().told {
+        match said.told {
             Some(number) => self.told.covers(number.cast_signed()),
             None => false,
         }
@@ -67,15 +68,20 @@ impl<C: Coverage> Account<C> {
 
     /// Tells the reader what an act of the writer says, if it hears it. The result is whether it is told the payload of a
     /// number that it was told of before. After `Memory` the account is of no use.
-    pub(crate) fn hear(&mut self, act: &Spoken<'_>) -> Result<bool, Memory>
+    pub(crate) fn hear(
+        &mut self,
+        act: &Spoken<'_>,
+        said: &SaidNumbers<'_, '_>,
+    ) -> Result<bool, Memory>
+        requires { said_spec.Says (said_spec.said (values.spoken_value act.now).body) said.now }
         ensures heard { OnOk result (account_spec.Hears C.covered (values.spoken_value act.now) self.old self.new) }
         ensures again { IfOk result (λ again. (n : ℕ) → account_spec.ComesAgain C.covered (values.spoken_value act.now) self.old n → again ≡ true) }
     {
         if !act.heard_by(self.pair.reader) {
             return Ok(false);
         }
-        let again = self.had_payload_of(act);
-        add_told(&mut self.told, act)?;
+        let again = self.had_payload_of(said);
+        add_told(&mut self.told, said)?;
         Ok(again)
     }
 }

@@ -93,9 +93,10 @@ impl<C: Coverage> Accounts<C> {
         ensures again { IfOk result (λ again. (place : ℕ) (d : AccountValue C) (n : ℕ) → place < length self.old.accounts.items
             → account.ComesAgain C.covered (values.spoken_value act.now) (slice_index_or self.old.accounts.items place d) n → again ≡ true) }
     {
+        let said = act.said();
         let mut again = false;
         for place in 0..self.accounts.len() {
-            if self.accounts[place].hear(act)? {
+            if self.accounts[place].hear(act, &said)? {
                 again = true;
             }
         }

@@ -1,19 +1,18 @@
 ghost use Rattle.std.specs.Prelude.{◌≡◌, ◌≤◌, ◌<◌, ◌^◌, ◌&&◌, nat_le, nat_lt, is_some, unwrap_or, OnOk};
-ghost use Rattle.rtps_receiver.specs.Said as said;
+ghost use Rattle.rtps_receiver.specs.Said as said_spec;
 ghost use Rattle.rtps_receiver.specs.Values as values;
 ghost use Rattle.rtps_coverage.specs.Coverage as coverage;
 ghost use Rattle.rtps_audit.specs.Speech as speech;
 
 use rtps_coverage::Coverage;
 use rtps_ids::{Guid, Memory};
-use rtps_receiver::{Numbers, Spoken};
+use rtps_receiver::{Numbers, SaidNumbers, Spoken};
 
-/// Adds the numbers that an act has a word for to a set. After `Memory` the set may have some of them.
-pub(crate) fn add_told<C: Coverage>(told: &mut C, act: &Spoken<'_>) -> Result<(), Memory>
-    ensures { OnOk result
-        (coverage.TellsMore (C.covered told.old) (C.covered told.new) (λ n. is_some (speech.word_of (values.spoken_value act.now).body n))) }
+/// Adds the numbers that an act has a word for to a set, by what it says. After `Memory` the set may have some of them.
+pub(crate) fn add_told<C: Coverage>(told: &mut C, said: &SaidNumbers<'_, '_>) -> Result<(), Memory>
+    ensures { OnOk result ((value : said_spec.SaidValue) → said_spec.Says value said.now
+        → coverage.TellsMore (C.covered told.old) (C.covered told.new) (λ n. is_some (speech.word_in value n))) }
 {
-    let said = act.said();
     add_gone(told, &said.gone)?;
     if let Some(number) = said.told {
         add_range(told, number, number + 1)?;
@@ -36,7 +35,7 @@ pub(crate) fn add_range<C: Coverage>(told: &mut C, first: u64, end: u64) -> Resu
 
 /// Adds the numbers that are gone, range by range.
 fn add_gone<C: Coverage>(told: &mut C, gone: &Numbers<'_>) -> Result<(), Memory>
-    ensures { OnOk result (coverage.TellsMore (C.covered told.old) (C.covered told.new) (said.numbers_have gone.now)) }
+    ensures { OnOk result (coverage.TellsMore (C.covered told.old) (C.covered told.new) (said_spec.numbers_have gone.now)) }
 {
     let mut at = 0;
     'apart: while let Some(range) = gone.range_from(at) {

@@ -1,7 +1,7 @@
 -- What is kept of the payloads that are compared. own: a number has one payload, so payloads have to be compared only of a number of
 -- which one came again; of such a number each payload is kept once for those that it is sent to (DDSI-RTPS 2.5, 8.3.8.2 "Data" and
 -- 8.3.8.3 "DataFrag").
-use Rattle.std.specs.Prelude.{ℕ, Bool, true, ◌==◌, ◌≡◌, ◌≤◌, ◌<◌, ◌^◌, if◌then◌else◌, List, [], All, Contains, filter, length, slice_get, slice_index_or, Option, Some, None}
+use Rattle.std.specs.Prelude.{ℕ, Bool, true, ◌==◌, ◌≡◌, ◌<◌, if◌then◌else◌, List, [], Contains, filter, length, slice_get, slice_index_or, Option, Some, None}
 use Rattle.rtps_coverage.specs.MergedRanges as merged_ranges
 use Rattle.rtps_wire.specs.Values as wire_values
 use Rattle.rtps_receiver.specs.Speech as receiver_speech
@@ -14,8 +14,8 @@ use Rattle.rtps_audit.specs.Speech as speech
 use Rattle.rtps_audit.specs.declared.payload_conflict.AddressedPayload.{AddressedPayload}
 use Rattle.rtps_passes.specs.Judging as judging
 use Rattle.rtps_passes.specs.declared.comparison.Comparison.{Comparison}
-use Rattle.rtps_passes.specs.declared.comparison.KeptPayload.{KeptPayload}
-use Rattle.rtps_passes.specs.declared.comparison.KeptPayloads.{KeptPayloads}
+use Rattle.rtps_passes.specs.declared.kept_payload.KeptPayload.{KeptPayload}
+use Rattle.rtps_passes.specs.declared.kept_payloads.KeptPayloads.{KeptPayloads}
 use Rattle.rtps_passes.specs.declared.judged_writer.JudgedWriter.{JudgedWriter}
 
 -- what is kept is the payload of an entry, and whom that is for
@@ -31,13 +31,8 @@ pub record IsToldBy (act : receiver_values.ActValue) (kept : KeptPayload) : Type
   pub reader : receiver_speech.reader_named act.body ≡ Some kept.reader
   pub says : (n : ℕ) → speech.word_of act.body n ≡ (if n == kept.number then Some (delivery.Word.Told (wire_values.payload_value kept.payload)) else None)
 
--- the number is a sequence number
-abbrev pub IsInRange : KeptPayload → Type 0
-IsInRange kept = (1 ≤ kept.number) × (kept.number < 2 ^ 63)
-
 -- kept are the payloads that these acts tell for numbers that are wanted
 pub record AreKept (wanted : ℕ → Bool) (placed : List placed_spec.PlacedValue) (kept : List KeptPayload) : Type 0 where
-  pub in_range : All IsInRange kept
   pub told : (one : KeptPayload) → Contains kept one → (wanted one.number ≡ true) × ((at : placed_spec.PlacedValue) × Contains placed at × IsToldBy at.act one)
   pub all : (at : placed_spec.PlacedValue) (n : ℕ) (x : wire_values.PayloadValue) → Contains placed at → wanted n ≡ true → speech.word_of at.act.body n ≡ Some (delivery.Word.Told x) → (one : KeptPayload) × Contains kept one × IsToldBy at.act one
 

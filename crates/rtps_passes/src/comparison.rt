@@ -1,7 +1,6 @@
-ghost use Rattle.std.specs.Prelude.{ℕ, Bool, ◌≡◌, ◌≤◌, ◌<◌, ◌++◌, ◌∷◌, [], ◌↔◌, false, true, length, map, slice_index_or, All, Contains, IfOk, IfSome, IsTrue, List, OnOk};
+ghost use Rattle.std.specs.Prelude.{ℕ, Bool, ◌≡◌, ◌≢◌, ◌≤◌, ◌<◌, ◌++◌, ◌∷◌, [], ◌↔◌, false, true, length, map, slice_index_or, All, Contains, IfOk, IfSome, IsTrue, List, OnOk};
 ghost use Rattle.std.specs.List.Sorted.{IsStrictlySortedBy};
 ghost use Rattle.rtps_receiver.specs.Values as values;
-ghost use Rattle.rtps_wire.specs.Values as wire_values;
 ghost use Rattle.rtps_discovery.specs.GuidOrder as guid_order;
 ghost use Rattle.rtps_discovery.specs.declared.matching.Pair.{Pair as PairValue};
 ghost use Rattle.rtps_audit.specs.Account as account;
@@ -12,177 +11,16 @@ ghost use Rattle.rtps_audit.specs.Placed as placed_spec;
 ghost use Rattle.rtps_passes.specs.Comparison as comparison;
 ghost use Rattle.rtps_passes.specs.Judging as judging_spec;
 ghost use Rattle.rtps_passes.specs.Survey as survey_spec;
-ghost use Rattle.rtps_passes.specs.declared.comparison.KeptPayload.{KeptPayload as KeptValue};
 ghost use Rattle.rtps_passes.specs.declared.judged_writer.JudgedWriter.{JudgedWriter as JudgedValue};
 
 use crate::judging::{Judging, place_of};
+use crate::kept_payloads::{KeptPayloads, entries_of};
 use crate::survey::Survey;
 use bumpalo::Bump;
 use rtps_audit::{AddressedPayload, PayloadConflicts, Report, Row, addressed};
-use rtps_ids::{EntityId, GuidPrefix, Memory};
+use rtps_ids::Memory;
 use rtps_receiver::Spoken;
-use rtps_wire::Payload;
 use std::alloc::Global;
-use std::collections::BTreeMap;
-
-/// A payload that is compared, in an arena, and whom it is for.
-#[derive(Clone, Copy)]
-pub(crate) struct KeptPayload<'p> {
-    pub(crate) number: u64,
-    pub(crate) dest: Option<GuidPrefix>,
-    pub(crate) reader: EntityId,
-    pub(crate) payload: Payload<'p>,
-}
-
-/// The payloads of a writer that are compared. One that was sent again to the same readers is kept once.
-#[derive(Drop)]
-pub(crate) struct KeptPayloads<'p> {
-    payloads: Vec<KeptPayload<'p>>,
-    /// Where those of a number stand.
-    places: BTreeMap<u64, Vec<usize>>,
-    alloc: Global,
-}
-
-/// Whether two payloads are equal in kind and octets.
-fn is_same_payload(one: &Payload<'_>, other: &Payload<'_>) -> bool
-    ensures { IsTrue result ↔ (wire_values.payload_value one.now ≡ wire_values.payload_value other.now) }
-{
-    match (*one, *other) {
-        (Payload::Absent, Payload::Absent) => true,
-        (Payload::Whole(one), Payload::Whole(other)) => one == other,
-        (Payload::Key(one), Payload::Key(other)) => one == other,
-        _ => false,
-    }
-}
-
-/// A payload with its octets in an arena.
-fn copied<'p>(payload: &Payload<'_>, arena: &'p Bump) -> Result<Payload<'p>, Memory>
-    ensures { IfOk result (λ copy. wire_values.payload_value copy ≡ wire_values.payload_value payload.now) }
-{
-    match payload {
-        Payload::Absent => Ok(Payload::Absent),
-        Payload::Whole(octets) => Ok(Payload::Whole(arena.try_alloc_slice_copy(octets)?)),
-        Payload::Key(octets) => Ok(Payload::Key(arena.try_alloc_slice_copy(octets)?)),
-    }
-}
-
-/// Whether what is kept is this entry.
-fn is_entry(kept: &KeptPayload<'_>, entry: &AddressedPayload<'_, '_>) -> bool
-    ensures { result ≡ true → comparison.IsEntryOf entry.now kept.now }
-{
-    kept.number == entry.number
-        && kept.dest == *entry.dest
-        && kept.reader == entry.reader
-        && is_same_payload(&kept.payload, entry.payload)
-}
-
-impl<'p> KeptPayloads<'p> {
-    /// Nothing is kept.
-    fn new(alloc: Global) -> Self
-        ensures { result.payloads.items ≡ [] }
-    {
-        KeptPayloads {
-            payloads: Vec::new(alloc),
-            places: BTreeMap::new(alloc),
-            alloc,
-        }
-    }
-
-    /// Where the payloads of a number stand.
-    fn places_of(&self, number: u64) -> &[usize] {
-        match self.places.get(&number) {
-            Some(places) => places,
-            None => &[],
-        }
-    }
-
-    /// Whether an entry is found among the payloads of its number.
-    fn has(&self, entry: &AddressedPayload<'_, '_>) -> bool
-        ensures { result ≡ true → (one : KeptValue) × Contains self.now.payloads.items one × comparison.IsEntryOf entry.now one }
-    {
-        for place in self.places_of(entry.number) {
-            if let Some(kept) = self.payloads.get(*place)
-                && is_entry(kept, entry)
-            {
-                return true;
-            }
-        }
-        false
-    }
-
-    /// A payload of this number that is equal to this one, if one is found.
-    fn equal_to(&self, number: u64, payload: &Payload<'_>) -> Option<Payload<'p>>
-        ensures { IfSome result (λ kept. wire_values.payload_value kept ≡ wire_values.payload_value payload.now) }
-    {
-        for place in self.places_of(number) {
-            if let Some(kept) = self.payloads.get(*place)
-                && is_same_payload(&kept.payload, payload)
-            {
-                return Some(kept.payload);
-            }
-        }
-        None
-    }
-
-    /// What is to be kept of an entry: it shares the octets of an equal payload of its number, and else they are copied.
-    fn kept_of(
-        &self,
-        entry: &AddressedPayload<'_, '_>,
-        arena: &'p Bump,
-    ) -> Result<KeptPayload<'p>, Memory>
-        ensures { IfOk result (comparison.IsEntryOf entry.now) }
-    {
-        let payload = match self.equal_to(entry.number, entry.payload) {
-            Some(payload) => payload,
-            None => copied(entry.payload, arena)?,
-        };
-        Ok(KeptPayload {
-            number: entry.number,
-            dest: *entry.dest,
-            reader: entry.reader,
-            payload,
-        })
-    }
-
-    /// Keeps an entry, unless it is kept. After `Memory` what is kept is of no use.
-    fn keep(&mut self, entry: &AddressedPayload<'_, '_>, arena: &'p Bump) -> Result<(), Memory>
-        ensures { OnOk result ((wanted : ℕ → Bool) (placed : List placed_spec.PlacedValue) (at : placed_spec.PlacedValue)
-            → payload_conflict.IsSentBy at.act entry.now → wanted entry.now.number ≡ true → payload_conflict.IsInRange entry.now
-            → comparison.AreKept wanted placed self.old.payloads.items → comparison.AreKept wanted (placed ++ at ∷ []) self.new.payloads.items) }
-    {
-        if self.has(entry) {
-            return Ok(());
-        }
-        let place = self.payloads.len();
-        let kept = self.kept_of(entry, arena)?;
-        self.payloads.push(kept)?;
-        self.places
-            .entry(entry.number)?
-            .or_insert(Vec::new(self.alloc))
-            .push(place)?;
-        Ok(())
-    }
-}
-
-/// The entries of what is kept.
-fn entries_of<'x, 'p>(
-    alloc: Global,
-    kept: &'x [KeptPayload<'p>],
-) -> Result<Vec<AddressedPayload<'x, 'p>>, Memory>
-    ensures in_range { All comparison.IsInRange kept.now → IfOk result (λ entries. All payload_conflict.IsInRange entries.items) }
-    ensures sent { (wanted : ℕ → Bool) (placed : List placed_spec.PlacedValue) → comparison.AreKept wanted placed kept.now → IfOk result (λ entries. payload_conflict.AreSentIn wanted placed entries.items) }
-{
-    let mut entries = Vec::with_capacity(alloc, kept.len())?;
-    for one in kept {
-        entries.push(AddressedPayload {
-            number: one.number,
-            dest: &one.dest,
-            reader: one.reader,
-            payload: &one.payload,
-        })?;
-    }
-    Ok(entries)
-}
 
 /// The third pass over a recording: the payloads of numbers of which one came again. A payload that came again and is the same takes no
 /// memory.
@@ -219,9 +57,28 @@ impl<'j, 'p> Comparison<'j, 'p> {
         ensures reached { OnOk result (place < length self.new.kept.items) }
         ensures same { OnOk result ((other : ℕ) → comparison.kept_at self.new.kept.items other ≡ comparison.kept_at self.old.kept.items other) }
     {
-        for _ in self.kept.len()..=place {
+        'places: while self.kept.len() <= place {
             self.kept.push(KeptPayloads::new(self.alloc))?;
         }
+        Ok(())
+    }
+
+    /// Keeps an entry of the writer at a place.
+    fn keep(
+        &mut self,
+        place: usize,
+        entry: &AddressedPayload<'_, '_>,
+        payloads: &'p Bump,
+    ) -> Result<(), Memory>
+        requires { payload_conflict.IsInRange entry.now }
+        ensures judging { self.new.judging ≡ self.old.judging }
+        ensures others { OnOk result ((other : ℕ) → other ≢ place → comparison.kept_at self.new.kept.items other ≡ comparison.kept_at self.old.kept.items other) }
+        ensures kept { OnOk result ((wanted : ℕ → Bool) (placed : List placed_spec.PlacedValue) (at : placed_spec.PlacedValue)
+            → payload_conflict.IsSentBy at.act entry.now → wanted entry.now.number ≡ true
+            → comparison.AreKept wanted placed (comparison.kept_at self.old.kept.items place) → comparison.AreKept wanted (placed ++ at ∷ []) (comparison.kept_at self.new.kept.items place)) }
+    {
+        self.reach(place)?;
+        self.kept[place].keep(entry, payloads)?;
         Ok(())
     }
 
@@ -238,10 +95,10 @@ impl<'j, 'p> Comparison<'j, 'p> {
         };
         self.latest = place;
         let questions = self.judging.writers[place].accounts.questions();
-        if let Some(entry) = addressed(act, questions) {
-            self.reach(place)?;
-            self.kept[place].keep(&entry, payloads)?;
-        }
+        let Some(entry) = addressed(act, questions) else {
+            return Ok(());
+        };
+        self.keep(place, &entry, payloads)?;
         Ok(())
     }
 
@@ -258,14 +115,16 @@ impl<'j, 'p> Comparison<'j, 'p> {
         Ok(())
     }
 
-    /// What is kept of the writer at a place.
-    fn kept_at(&self, place: usize) -> &[KeptPayload<'p>]
-        ensures { result.now ≡ comparison.kept_at self.now.kept.items place }
+    /// The entries of what is kept of the writer at a place.
+    fn entries_at(&self, place: usize) -> Result<Vec<AddressedPayload<'_, 'p>>, Memory>
+        ensures sent { (wanted : ℕ → Bool) (placed : List placed_spec.PlacedValue) → comparison.AreKept wanted placed (comparison.kept_at self.now.kept.items place)
+            → IfOk result (λ entries. payload_conflict.AreSentIn wanted placed entries.items) }
+        ensures in_range { IfOk result (λ entries. All payload_conflict.IsInRange entries.items) }
     {
-        let Some(kept) = self.kept.get(place) else {
-            return &[];
-        };
-        &kept.payloads
+        match self.kept.get(place) {
+            Some(kept) => entries_of(self.alloc, &kept.payloads),
+            None => Ok(Vec::new(self.alloc)),
+        }
     }
 
     /// The rows of the pairs of the writer at a place.
@@ -274,7 +133,7 @@ impl<'j, 'p> Comparison<'j, 'p> {
         ensures { (from : ℕ) (pairs : List PairValue) (recording : List (List values.ActValue)) (d : JudgedValue) → comparison.IsComparisonBy from pairs recording recording self.now
             → IfOk result (λ rows. account.AreRowsOf from recording (judging_spec.pairs_of (slice_index_or self.now.judging.now.writers.items place d)) rows.items) }
     {
-        let mut entries = entries_of(self.alloc, self.kept_at(place))?;
+        let mut entries = self.entries_at(place)?;
         entries.sort_by_key(|entry| entry.number)?;
         let conflicts = PayloadConflicts::among(self.alloc, &entries)?;
         let rows = self.judging.writers[place].accounts.rows_by(&conflicts)?;

@@ -1,4 +1,4 @@
-ghost use Rattle.std.specs.Prelude.{ℕ, ◌≡◌, ◌≤◌, ◌<◌, ◌++◌, ◌∷◌, [], false, length, map, slice_index_or, All, IfOk, IfSome, List, OnOk};
+ghost use Rattle.std.specs.Prelude.{ℕ, ◌≡◌, ◌≢◌, ◌≤◌, ◌<◌, ◌++◌, ◌∷◌, [], false, length, map, slice_index_or, All, IfOk, IfSome, List, OnOk};
 ghost use Rattle.std.specs.List.{AllWithin, HoldsAt};
 ghost use Rattle.std.specs.List.Sorted.{IsStrictlySortedBy};
 ghost use Rattle.std.specs.Ordering.{is_eq};
@@ -50,7 +50,7 @@ fn writer_end(pairs: &[Pair], start: usize, writer: Guid) -> usize
     ensures onward { start ≤ result }
     ensures within { result ≤ length pairs.now }
     ensures of_writer { AllWithin (λ pair. pair.writer ≡ writer) pairs.now start result }
-    ensures end { result < length pairs.now → HoldsAt (λ pair. is_eq (guid_order.guid_cmp pair.writer writer) ≡ false) pairs.now result }
+    ensures end { result < length pairs.now → HoldsAt (λ pair. pair.writer ≢ writer) pairs.now result }
 {
     for place in start..pairs.len() {
         let pair = pairs[place];
@@ -76,44 +76,6 @@ fn writers_of(alloc: Global, pairs: &[Pair], from: FirstAsked) -> Result<Vec<Jud
     Ok(writers)
 }
 
-/// Notes the answer that an act of a datagram is, if it is one, where all acts in earlier datagrams are heard and none in this one. After
-/// `Memory` the accounts are of no use.
-fn note_answer(
-    writers: &mut [JudgedWriter],
-    datagram: usize,
-    act: &Spoken<'_>,
-) -> Result<(), Memory>
-    ensures { OnOk result ((from : ℕ) (pairs : List PairValue) (asked heard : List placed_spec.PlacedValue)
-        → 1 ≤ datagram → All (λ at. at.datagram < datagram) heard
-        → judging_spec.HaveTakenIn from datagram pairs asked heard writers.old
-        → judging_spec.HaveTakenIn from datagram pairs (asked ++ record { datagram = datagram; act = values.spoken_value act.now } ∷ []) heard writers.new) }
-{
-    let Some((pair, answer)) = answer_in(datagram, act) else {
-        return Ok(());
-    };
-    if let Some(place) = place_of(writers, pair.writer, 0) {
-        writers[place].note(pair.reader, answer)?;
-    }
-    Ok(())
-}
-
-/// Notes the answers among the acts of a datagram.
-fn note_answers(
-    writers: &mut [JudgedWriter],
-    datagram: usize,
-    acts: &[Spoken<'_>],
-) -> Result<(), Memory>
-    ensures { OnOk result ((from : ℕ) (pairs : List PairValue) (asked heard : List placed_spec.PlacedValue)
-        → 1 ≤ datagram → All (λ at. at.datagram < datagram) heard
-        → judging_spec.HaveTakenIn from datagram pairs asked heard writers.old
-        → judging_spec.HaveTakenIn from datagram pairs (asked ++ placed_spec.placed_at datagram (map values.spoken_value acts.now)) heard writers.new) }
-{
-    for act in acts {
-        note_answer(writers, datagram, act)?;
-    }
-    Ok(())
-}
-
 impl Judging {
     /// Before all datagrams: the accounts of the reliable pairs of a directory, by the numbers from `from` on. `Memory` is answered where
     /// there is none for them.
@@ -128,6 +90,38 @@ impl Judging {
             datagrams: 0,
             latest: 0,
         })
+    }
+
+    /// Notes the answer that an act is, if it is of some pair. It stands in the datagram that is counted last, of which no act is heard yet.
+    fn note_answer(&mut self, act: &Spoken<'_>) -> Result<(), Memory>
+        ensures datagrams { self.new.datagrams ≡ self.old.datagrams }
+        ensures taken { OnOk result ((from : ℕ) (pairs : List PairValue) (asked heard : List placed_spec.PlacedValue)
+            → 1 ≤ self.old.datagrams → All (λ at. at.datagram < self.old.datagrams) heard
+            → judging_spec.HaveTakenIn from self.old.datagrams pairs asked heard self.old.writers.items
+            → judging_spec.HaveTakenIn from self.old.datagrams pairs (asked ++ record { datagram = self.old.datagrams; act = values.spoken_value act.now } ∷ []) heard self.new.writers.items) }
+    {
+        let Some((pair, answer)) = answer_in(self.datagrams, act) else {
+            return Ok(());
+        };
+        if let Some(place) = place_of(&self.writers, pair.writer, self.latest) {
+            self.latest = place;
+            self.writers[place].note(pair.reader, answer)?;
+        }
+        Ok(())
+    }
+
+    /// Notes the answers among acts of the datagram that is counted last.
+    fn note_answers(&mut self, acts: &[Spoken<'_>]) -> Result<(), Memory>
+        ensures datagrams { self.new.datagrams ≡ self.old.datagrams }
+        ensures taken { OnOk result ((from : ℕ) (pairs : List PairValue) (asked heard : List placed_spec.PlacedValue)
+            → 1 ≤ self.old.datagrams → All (λ at. at.datagram < self.old.datagrams) heard
+            → judging_spec.HaveTakenIn from self.old.datagrams pairs asked heard self.old.writers.items
+            → judging_spec.HaveTakenIn from self.old.datagrams pairs (asked ++ placed_spec.placed_at self.old.datagrams (map values.spoken_value acts.now)) heard self.new.writers.items) }
+    {
+        for act in acts {
+            self.note_answer(act)?;
+        }
+        Ok(())
     }
 
     /// Hears an act, if it is of a writer of some pair.
@@ -167,7 +161,7 @@ impl Judging {
             return Err(Memory);
         }
         self.datagrams += 1;
-        note_answers(&mut self.writers, self.datagrams, acts)?;
+        self.note_answers(acts)?;
         self.hear_all(acts)?;
         Ok(())
     }

@@ -5,6 +5,8 @@
 mod comparison;
 mod judged_writer;
 mod judging;
+mod kept_payload;
+mod kept_payloads;
 mod survey;
 
 pub use comparison::Comparison;

@@ -1,12 +1,14 @@
 -- A capture that is read again gives the same, where its octets are known.
-use Rattle.std.proofs.Common.{◌≡◌, ◌≤◌, ◌<◌, ◌++◌, ◌∷◌, [], ℕ, Bool, false, true, true≢false, List, length, map, refl, sym, ap, subst, ◌∙◌, append-nil, arith}
+use Rattle.std.proofs.Common.{◌≡◌, ◌≤◌, ◌<◌, ◌++◌, ◌∷◌, [], ℕ, Bool, false, true, true≢false, List, length, map, take, refl, sym, ap, subst, ◌∙◌, append-nil, arith}
 use Rattle.std.specs.Prelude.{None, Option, Some, Result, Ok, Err}
+use Rattle.std.specs.Option.{option_map}
 use Rattle.std.specs.Io.KnownBytes.{Appends, Consumes, IsAtEnd, Keeps}
 use Rattle.std.specs.Hash.DefaultHasher as sip
 use Rattle.std.specs.declared.hash.DefaultHasher.{DefaultHasher}
-use Rattle.std.proofs.lemmas.List.{length-append, map-append}
+use Rattle.std.proofs.lemmas.List.{length-append, length-take, map-append, take_all}
 use Rattle.std.proofs.lemmas.List.Elements.{All-weaker}
-use Rattle.std.proofs.lemmas.List.Folds.{flat_map-map, fold-append}
+use Rattle.std.proofs.lemmas.List.Folds.{flat_map-map}
+use Rattle.std.proofs.lemmas.List.Sums.{fold-append}
 use Rattle.rtps_wire.specs.Reading as reading
 use Rattle.rtps_wire.specs.Tally as tally_spec
 use Rattle.rtps_wire.specs.declared.counts.Tally.{Tally}
@@ -182,6 +184,18 @@ read_fault_again RunFault.Input is = tt
 read_fault_again (RunFault.Output written) is = is
 read_fault_again RunFault.Memory is = tt
 read_fault_again RunFault.Changed is = tt
+
+-- so many octets of it are all
+pub all_within : (n : ℕ) (all : List ℕ) (left : Option (List ℕ)) → left ≡ Some all → length all ≤ n → option_map (take n) left ≡ Some all
+all_within n all left known few = ap (option_map (take n)) known ∙ ap Some (take_all n all few)
+
+-- whatever was read, nothing was written
+pub nothing_written : (limits : Limits) (captures : Captures) (before now : Option (List ℕ)) (fault : RunFault) → runs.FailsReading limits captures before now fault → passes.IsReadFault fault
+nothing_written limits captures before now (RunFault.Recording fault) is = tt
+nothing_written limits captures before now RunFault.Input is = tt
+nothing_written limits captures before now (RunFault.Output written) is = is
+nothing_written limits captures before now RunFault.Memory is = tt
+nothing_written limits captures before now RunFault.Changed is = absurd is
 
 -- and it is found again
 pub not_changed : (all : List ℕ) (first : FirstPass) (Took : List course.DatagramValue → Type 0) (state : DefaultHasher) (whole : Whole) (sum : ℕ) → passes.IsFirstOf all first

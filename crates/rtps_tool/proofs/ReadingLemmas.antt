@@ -10,6 +10,7 @@ use Rattle.rtps_report.specs.Recording as recording
 use Rattle.rtps_tool.specs.Outcomes as outcomes
 use Rattle.rtps_tool.specs.Forms as forms
 use Rattle.rtps_tool.specs.Lines as lines
+use Rattle.rtps_tool.specs.Passes as passes
 use Rattle.rtps_tool.specs.RecordingText as recording_text
 use Rattle.rtps_tool.specs.RunFaults as run_faults
 use Rattle.rtps_tool.specs.Runs as runs
@@ -104,10 +105,10 @@ recording_of-read limits captures a b total told h within =
     ∙ sym (recording_of-text limits captures h.text (omega (arith, h.size)) h.plain)
 
 -- the datagrams of the whole text were taken
-pub TakesText-last : (limits : Limits) (captures : Captures) (a b : Option (List ℕ)) (total lines octets : ℕ) (done : List (List ℕ)) (left : List ℕ) (all : List (List ℕ)) (Took : List course.DatagramValue → Type 0)
-    → HasRead limits captures a b total (λ later. unfinished.recording_behind limits.datagrams done lines (left ++ later)) → IsAtEnd b → total ≤ limits.octets → octets ≡ total
-    → Took (recording_text.untimed all) → unfinished.recording_behind limits.datagrams done lines left ≡ Ok all → unfinished.TakesText limits captures a b Took octets
-TakesText-last limits captures a b total lines octets done left all Took h end within size took fine = record {
+pub TakesText-last : (limits : Limits) (captures : Captures) (a b : Option (List ℕ)) (total count octets : ℕ) (done : List (List ℕ)) (left : List ℕ) (all : List (List ℕ)) (Took : List course.DatagramValue → Type 0)
+    → HasRead limits captures a b total (λ later. unfinished.recording_behind limits.datagrams done count (left ++ later)) → IsAtEnd b → total ≤ limits.octets → octets ≡ total
+    → Took (recording_text.untimed all) → unfinished.recording_behind limits.datagrams done count left ≡ Ok all → unfinished.TakesText limits captures a b Took octets
+TakesText-last limits captures a b total count octets done left all Took h end within size took fine = record {
   text = h.text;
   datagrams = all;
   took = took;
@@ -117,7 +118,7 @@ TakesText-last limits captures a b total lines octets done left all Took h end w
   size = omega (arith, h.size);
   within = omega (arith, h.size);
   told = sym (h.stands [] ∙ ap (λ (text : List ℕ). recording_text.recording_of_lines limits.datagrams 1 0 (lines.lines_of text)) (append-nil h.text))
-      ∙ ap (unfinished.recording_behind limits.datagrams done lines) (append-nil left) ∙ fine;
+      ∙ ap (unfinished.recording_behind limits.datagrams done count) (append-nil left) ∙ fine;
 }
 
 -- these are its recording
@@ -139,6 +140,16 @@ FailsReading-text limits captures a b text RecFault.Memory reads faulty = tt
 FailsReading-text limits captures a b text RecFault.BadCapture reads faulty = record { text = text; reads = reads; faulty = faulty; readable = λ same. cc }
 FailsReading-text limits captures a b text (RecFault.CutCapture frame) reads faulty = record { text = text; reads = reads; faulty = faulty; readable = λ same. cc }
 FailsReading-text limits captures a b text (RecFault.Damaged frame) reads faulty = record { text = text; reads = reads; faulty = faulty; readable = λ same. cc }
+
+-- it is no fault of writing
+pub run_fault_is_read : (fault : RecFault) → passes.IsReadFault (run_faults.run_fault_of fault)
+run_fault_is_read (RecFault.BadHex line) = tt
+run_fault_is_read (RecFault.TooLong line) = tt
+run_fault_is_read RecFault.TooMany = tt
+run_fault_is_read RecFault.Memory = tt
+run_fault_is_read RecFault.BadCapture = tt
+run_fault_is_read (RecFault.CutCapture frame) = tt
+run_fault_is_read (RecFault.Damaged frame) = tt
 
 pub FailsReading-end : (limits : Limits) (captures : Captures) (a b : Option (List ℕ)) (total : ℕ) (told : List ℕ → Result (List (List ℕ)) RecFault) (fault : RecFault)
     → HasRead limits captures a b total told → IsAtEnd b → total ≤ limits.octets → outcomes.IsFaultOf (told []) fault → runs.FailsReading limits captures a b (run_faults.run_fault_of fault)

@@ -91,61 +91,63 @@ fn passes_text<R: Read, S: Source<R>, P: Watch + Follow>(
         captures: options.captures,
     };
     match options.command {
-        Command::Audit(AskedAudit {
-            from,
-            fragments: Fragments::Skipped,
-        }) => Ok(Some(audit_by_passes(terms, from, source, reader, watch)?)),
-        Command::List(Fragments::Skipped) => {
-            Ok(Some(list_by_passes(terms, source, reader, watch)?))
-        }
+        Command::Audit(asked) => audit_by_passes(terms, asked, source, reader, watch),
+        Command::List(fragments) => list_by_passes(terms, fragments, source, reader, watch),
         _ => Ok(None),
     }
 }
 
-/// What `list` prints of a source, and that it ends [`Ending::Clean`].
+/// What `list` prints of a source, and that it ends [`Ending::Clean`]. None where fragments are read.
 fn list_by_passes<R: Read, S: Source<R>, P: Follow>(
     terms: CaptureTerms,
+    fragments: Fragments,
     source: &S,
     reader: &mut R,
     watch: &mut P,
-) -> Result<(String, Ending), RunFault>
+) -> Result<Option<(String, Ending)>, RunFault>
     ensures known { (all : List ℕ) → S.octets source.now ≡ Some all
-        → MatchResult result (λ told. passes_spec.Tells terms.limits terms.captures list_text_spec.IsListed all (string_bytes told.0) told.1) (passes_spec.FailsOn terms.limits terms.captures all) }
+        → MatchResult result (λ found. IfSome found (λ told. passes_spec.Tells terms.limits terms.captures (list_text_spec.IsListedWith fragments) all (string_bytes told.0) told.1)) (passes_spec.FailsOn terms.limits terms.captures all) }
     ensures fault { IfErr result passes_spec.IsReadFault }
 {
     course_is_told();
+    let Fragments::Skipped = fragments else {
+        return Ok(None);
+    };
     let names = Bump::new(terms.alloc);
     let mut pass = Pass::new(1, Surveyed::new(terms.alloc, &names));
     let first = first_pass(terms, source, reader, &mut pass)?;
     watch.recorded(first.whole.ignored());
     let survey = &pass.taker.survey;
     let text = directory_text(terms.alloc, survey.directory(), survey.faults())?;
-    Ok((text, Ending::Clean))
+    Ok(Some((text, Ending::Clean)))
 }
 
-/// What `audit` prints of a source by the numbers from `from` on, and how it ends.
+/// What `audit` prints of a source, and how it ends. None where fragments are read.
 fn audit_by_passes<R: Read, S: Source<R>, P: Follow>(
     terms: CaptureTerms,
-    from: SeqNum,
+    asked: AskedAudit,
     source: &S,
     reader: &mut R,
     watch: &mut P,
-) -> Result<(String, Ending), RunFault>
+) -> Result<Option<(String, Ending)>, RunFault>
     ensures known { (all : List ℕ) → S.octets source.now ≡ Some all
-        → MatchResult result (λ told. passes_spec.Tells terms.limits terms.captures (report_text_spec.IsAuditedFrom from) all (string_bytes told.0) told.1) (passes_spec.FailsOn terms.limits terms.captures all) }
+        → MatchResult result (λ found. IfSome found (λ told. passes_spec.Tells terms.limits terms.captures (report_text_spec.IsAuditedAs asked) all (string_bytes told.0) told.1)) (passes_spec.FailsOn terms.limits terms.captures all) }
     ensures fault { IfErr result passes_spec.IsReadFault }
 {
     course_is_told();
     skipped_fragments_are_not_sent();
     acts_are_heard_without_fragments();
+    let Fragments::Skipped = asked.fragments else {
+        return Ok(None);
+    };
     let names = Bump::new(terms.alloc);
     let mut pass = Pass::new(1, Surveyed::new(terms.alloc, &names));
     let first = first_pass(terms, source, reader, &mut pass)?;
     watch.recorded(first.whole.ignored());
     let survey = &pass.taker.survey;
-    let report = report_again(first, from, source, reader, survey)?;
+    let report = report_again(first, asked.from, source, reader, survey)?;
     let told = report_text(terms.alloc, &report, first.whole.ignored())?;
-    Ok(told)
+    Ok(Some(told))
 }
 
 /// The report on a recording, by the passes behind the first one.

@@ -1,7 +1,8 @@
-ghost use Rattle.std.specs.Prelude.{◌≡◌, [], false, ◌+◌, ◌≤◌, ◌<◌, ℕ, List, Option, length, take, vec_len, MatchResult, IfOk};
+ghost use Rattle.std.specs.Prelude.{◌≡◌, [], false, ◌+◌, ◌≤◌, ◌<◌, ℕ, List, Option, length, take, vec_len, MatchResult, IfErr, IfOk};
 ghost use Rattle.std.specs.Io.KnownBytes.{Appends, Consumes, IsAtEnd};
 ghost use Rattle.rtps_tool.specs.Forms as forms;
 ghost use Rattle.rtps_capture.specs.declared.captures.Captures.{Captures as CapturesValue};
+ghost use Rattle.rtps_tool.specs.Passes as passes_spec;
 ghost use Rattle.rtps_tool.specs.Runs as runs;
 ghost use Rattle.rtps_tool.specs.Unfinished as unfinished;
 ghost use Rattle.rtps_tool.specs.declared.faults.RunFault.TheVariants.{Input};
@@ -122,10 +123,11 @@ pub(crate) fn take_short<T: Take>(
     taker: &mut T,
 ) -> Result<u64, RunFault>
     requires { length octets.now < 4 }
-    ensures { (before now : Option (List ℕ)) (first : T) → Consumes before now octets.now → IsAtEnd now → T.has_taken first [] taker.old
+    ensures told { (before now : Option (List ℕ)) (first : T) → Consumes before now octets.now → IsAtEnd now → T.has_taken first [] taker.old
         → MatchResult result
         (unfinished.TakesText terms.limits terms.captures before now (λ datagrams. T.has_taken first datagrams taker.new))
         (runs.FailsReading terms.limits terms.captures before now) }
+    ensures fault { IfErr result passes_spec.IsReadFault }
 {
     let size = octets.len() as u64;
     if size > terms.limits.octets {
@@ -146,11 +148,12 @@ pub(crate) fn take_text<R: Read, T: Take>(
 ) -> Result<u64, RunFault>
     requires room { length held.old ≡ 196607 }
     requires begun { (4 ≤ start) × (start ≤ 65539) }
-    ensures { (before : Option (List ℕ)) (first : T)
+    ensures told { (before : Option (List ℕ)) (first : T)
         → forms.begins_capture terms.captures (take start held.old) ≡ false → Consumes before (R.remaining input.old) (take start held.old) → T.has_taken first [] taker.old
         → MatchResult result
         (unfinished.TakesText terms.limits terms.captures before (R.remaining input.new) (λ datagrams. T.has_taken first datagrams taker.new))
         (runs.FailsReading terms.limits terms.captures before (R.remaining input.new)) }
+    ensures fault { IfErr result passes_spec.IsReadFault }
 {
     let mut reader = LineReader::new(terms.alloc);
     let mut total = start as u128;

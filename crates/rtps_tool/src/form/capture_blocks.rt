@@ -72,9 +72,9 @@ pub(crate) fn take_capture<R: Read, T: Take>(
 ) -> Result<WholeCapture, RunFault>
     requires begun { 4 ≤ length begun.now }
     requires form { forms.begins_capture terms.captures begun.now ≡ true }
-    ensures { (before : Option (List ℕ)) (start : T) → Consumes before (R.remaining input.old) begun.now → T.has_taken start [] taker.old
+    ensures { (before : Option (List ℕ)) → Consumes before (R.remaining input.old) begun.now
         → MatchResult result
-        (capture_blocks.TakesAll terms.limits terms.captures before (R.remaining input.new) (λ datagrams. T.has_taken start datagrams taker.new))
+        (capture_blocks.TakesAll terms.limits terms.captures before (R.remaining input.new) (λ datagrams. (start : T) → T.has_taken start [] taker.old → T.has_taken start datagrams taker.new))
         (runs.FailsReading terms.limits terms.captures before (R.remaining input.new)) }
 {
     let wanted = Wanted {
@@ -99,9 +99,9 @@ fn take_whole<R: Read, T: Take>(
     reader: &mut CaptureReader,
     taker: &mut T,
 ) -> Result<WholeCapture, RunFault>
-    ensures { (before : Option (List ℕ)) (start : T) → capture_blocks.CameSo terms.limits terms.captures before (R.remaining input.old) reader.old [] → T.has_taken start [] taker.old
+    ensures { (before : Option (List ℕ)) → capture_blocks.CameSo terms.limits terms.captures before (R.remaining input.old) reader.old []
         → MatchResult result
-        (capture_blocks.TakesAll terms.limits terms.captures before (R.remaining input.new) (λ datagrams. T.has_taken start datagrams taker.new))
+        (capture_blocks.TakesAll terms.limits terms.captures before (R.remaining input.new) (λ datagrams. (start : T) → T.has_taken start [] taker.old → T.has_taken start datagrams taker.new))
         (runs.FailsReading terms.limits terms.captures before (R.remaining input.new)) }
 {
     let limits = terms.limits;
@@ -157,10 +157,10 @@ fn take_all<R: Read, T: Take>(
     reader: &mut CaptureReader,
     taker: &mut T,
 ) -> Result<(), ReadFault>
-    ensures { (captures : CapturesValue) (before : Option (List ℕ)) (datagrams : List course.DatagramValue) (start : T)
-        → capture_blocks.CameSo limits captures before (R.remaining input.old) reader.old datagrams → T.has_taken start datagrams taker.old
+    ensures { (captures : CapturesValue) (before : Option (List ℕ)) (datagrams : List course.DatagramValue)
+        → capture_blocks.CameSo limits captures before (R.remaining input.old) reader.old datagrams
         → MatchResult result
-        (λ _. capture_blocks.Takes limits captures before (R.remaining input.new) reader.new (λ datagrams. T.has_taken start datagrams taker.new))
+        (λ _. capture_blocks.Takes limits captures before (R.remaining input.new) reader.new (λ more. (start : T) → T.has_taken start datagrams taker.old → T.has_taken start more taker.new))
         (capture_blocks.FailsTaking limits captures before (R.remaining input.new) reader.new) }
 {
     'datagrams: while reader.octets_read() <= limits.octets {

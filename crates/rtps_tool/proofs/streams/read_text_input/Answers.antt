@@ -7,9 +7,9 @@ use Rattle.rtps_tool.proofs.streams.read_text_input.Goals as goal
 pub returns-in_err-take_text : goal.returns-in_err-take_text
 returns-in_err-take_text g c = λ before plain taken.
     let p = err_from_is_err_and c.from_residual.result c.from_residual.ensures.1 in
-    rw (p.1, p.2) (c.in_err-take_text.ensures before c.new-list.result plain taken (λ is. is))
+    rw (p.1, p.2) (c.in_err-take_text.ensures.told before c.new-list.result plain taken (λ is. is))
 
 pub returns : goal.returns
 returns g c = λ before plain taken.
-    let all = c.in_ok-take_text.ensures before c.new-list.result plain taken (λ is. is) in
+    let all = c.in_ok-take_text.ensures.told before c.new-list.result plain taken (λ is. is) in
     rw c.of_text.ensures (ReadsRecording-text _ _ _ _ _ _ _ all (all.took c.new-list.ensures ∙ octets_of-untimed all.datagrams))

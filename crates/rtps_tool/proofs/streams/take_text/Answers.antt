@@ -1,4 +1,4 @@
-use Rattle.std.proofs.Common.{[], ◌≡◌, ◌++◌, ◌+◌, ◌-◌, ◌<◌, ◌≤◌, ◌∙◌, ℕ, List, drop, length, take, refl, sym, ap, subst, arith}
+use Rattle.std.proofs.Common.{◌≡◌, [], ◌++◌, ◌+◌, ◌-◌, ◌<◌, ◌≤◌, ◌∙◌, ℕ, List, drop, length, take, refl, sym, ap, subst, arith}
 use Rattle.std.specs.List.{position}
 use Rattle.std.proofs.lemmas.List.{length-append, length-take, take-append-le}
 use Rattle.std.proofs.lemmas.Result.{err_from_is_err_and}
@@ -7,7 +7,7 @@ use Rattle.rtps_tool.specs.RunFaults as run_faults
 use Rattle.rtps_tool.specs.Runs as runs
 use Rattle.rtps_tool.specs.Unfinished as unfinished
 use Rattle.rtps_tool.specs.declared.faults.RecFault.{RecFault}
-use Rattle.rtps_tool.proofs.ReadingLemmas.{HasRead, take_front, HasRead-start, HasRead-read, HasRead-last, HasRead-told, TakesText-last, FailsReading-last, FailsReading-on, FailsReading-on-past, FailsReading-text}
+use Rattle.rtps_tool.proofs.ReadingLemmas.{HasRead, take_front, HasRead-start, HasRead-read, HasRead-last, HasRead-told, TakesText-last, FailsReading-last, FailsReading-on, FailsReading-on-past, FailsReading-text, run_fault_is_read}
 use Rattle.rtps_tool.proofs.UnfinishedLemmas.{recording_of-past}
 use Rattle.rtps_tool.proofs.streams.take_text.Goals as goal
 use Rattle.rtps_tool.proofs.streams.take_text.Goals.{then-total-terms, else-total-terms}
@@ -38,8 +38,8 @@ slice_bounds-feed-end g c = omega (arith, c.pieces.auto.held, c.requires.room, c
 pub slice_bounds-feed-end-in-pieces : goal.slice_bounds-feed-end-in-pieces
 slice_bounds-feed-end-in-pieces g c = omega (arith, length-take (c.pieces.kept + c.pieces.got) c.pieces.held, c.pieces.auto.held, c.requires.room, c.pieces.invariant.1)
 
-pub returns-in-Err : goal.returns-in-Err
-returns-in-Err g c = λ before first plain taken told.
+pub returns-in-Err-clause-told : goal.returns-in-Err-clause-told
+returns-in-Err-clause-told g c = λ before first plain taken told.
     let captures = c.args.terms.captures in
     let so_far = c.pieces.invariant.4 before first plain taken told in
     let grown = so_far.2 in
@@ -51,6 +51,14 @@ returns-in-Err g c = λ before first plain taken told.
       | else-total-terms w ↦ subst F (sym w.first-is) (FailsReading-on _ _ _ _ _ _ _ _ c.in-Err.fault grown more w.if-total-terms.false faulty)
     ] in
     rw c.from.ensures failed
+
+pub returns-in-Err-clause-fault : goal.returns-in-Err-clause-fault
+returns-in-Err-clause-fault g c = rw c.from.ensures (run_fault_is_read c.if-total-terms.first)
+
+pub returns-in_err-finish-clause-fault : goal.returns-in_err-finish-clause-fault
+returns-in_err-finish-clause-fault g c =
+    let p = err_from_is_err_and c.from_residual-in_err-finish.result c.from_residual-in_err-finish.ensures.1 in
+    rw (p.1, p.2) (run_fault_is_read c.in_err-finish.field-0.0)
 
 pub pieces-preserved : goal.pieces-preserved
 pieces-preserved g c =
@@ -80,8 +88,8 @@ pieces-preserved g c =
           ),
     )
 
-pub returns-then-got-eq0 : goal.returns-then-got-eq0
-returns-then-got-eq0 g c = λ before first plain taken told.
+pub returns-then-got-eq0-clause-told : goal.returns-then-got-eq0-clause-told
+returns-then-got-eq0-clause-told g c = λ before first plain taken told.
     let left = c.in-Ok.left in
     let got = c.in-Ok-read.got in
     let size = left + 65536 - left in
@@ -101,8 +109,8 @@ returns-then-got-eq0 g c = λ before first plain taken told.
     let whole = c.in_ok-finish.ensures more.all first more.has_told in
     TakesText-last c.args.terms.limits captures before _ c.pieces.total _ _ _ _ whole.all _ last (c.in-Ok-read.ensures.bytes.1 c.if-got-eq0.true (omega arith)) (omega arith) (omega arith) whole.told whole.stands
 
-pub returns-in_err-finish : goal.returns-in_err-finish
-returns-in_err-finish g c = λ before first plain taken told.
+pub returns-in_err-finish-clause-told : goal.returns-in_err-finish-clause-told
+returns-in_err-finish-clause-told g c = λ before first plain taken told.
     let p = err_from_is_err_and c.from_residual-in_err-finish.result c.from_residual-in_err-finish.ensures.1 in
     let left = c.in-Ok.left in
     let got = c.in-Ok-read.got in
@@ -122,8 +130,8 @@ returns-in_err-finish g c = λ before first plain taken told.
     let last = HasRead-last c.args.terms.limits captures before _ _ c.pieces.total left got size new.lines more.all held buf grown c.in-Ok-read.ensures.bytes.0 (sym c.in-Ok-read.ensures.bound.1) within c.in-Ok-read.ensures.bound.0 c.if-got-eq0.true in
     rw (p.1, p.2) (FailsReading-last c.args.terms.limits captures before _ c.pieces.total _ _ _ c.in_err-finish.field-0.0 last (c.in-Ok-read.ensures.bytes.1 c.if-got-eq0.true (omega arith)) (omega arith) (c.in_err-finish.ensures more.all first more.has_told))
 
-pub returns : goal.returns
-returns g c = λ before first plain taken told.
+pub returns-clause-told : goal.returns-clause-told
+returns-clause-told g c = λ before first plain taken told.
     let captures = c.args.terms.captures in
     let h = (c.pieces.invariant.4 before first plain taken told).2 in
     let past : c.args.terms.limits.octets < length h.text = omega (arith, h.size, c.pieces-test.false) in
