@@ -203,7 +203,7 @@ pub not_changed : (all : List ℕ) (first : FirstPass) (Took : List course.Datag
     → passes.is_found_again first whole sum ≡ false → ⊥
 not_changed all first Took state whole sum is found summed differs =
     let octets : passes.size_of whole ≡ passes.size_of first.whole =
-        size_of_whole first.terms.limits first.terms.captures all whole found.0 ∙ sym (size_of_whole first.terms.limits first.terms.captures all first.whole is.whole) in
+    size_of_whole first.terms.limits first.terms.captures all whole found.0 ∙ sym (size_of_whole first.terms.limits first.terms.captures all first.whole is.whole) in
     let same : sum ≡ first.sum = summed ∙ ap sip.finish found.1.1 ∙ sym is.sum in
     let both : passes.is_found_again first whole sum ≡ true = rw (octets, same) (grind arith) in
     true≢false (sym both ∙ differs)

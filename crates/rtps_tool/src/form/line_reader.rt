@@ -115,12 +115,7 @@ impl LineReader {
     }
 
     /// Reads one line more: the taker is told the datagram that it stands for, if it stands for one.
-    fn read_line<T: Take>(
-        &mut self,
-        most: u64,
-        line: &[u8],
-        taker: &mut T,
-    ) -> Result<(), RecFault>
+    fn read_line<T: Take>(&mut self, most: u64, line: &[u8], taker: &mut T) -> Result<(), RecFault>
         requires in_range { self.old.lines + 1 < 2 ^ 64 }
         ensures counted { self.new.lines ≡ self.old.lines + 1 }
         ensures told { (done : List (List ℕ)) (start : T) → unfinished.HasTold (λ told. T.has_taken start told taker.old) self.old done

@@ -28,7 +28,7 @@ pieces-init g c =
         [],
         record { told = told; count = c.new-reader.ensures.0 },
         subst (λ (n : ℕ). HasRead limits captures before (g.R.Read.remaining c.args.input.now) start (λ later. unfinished.recording_behind limits.datagrams [] lines (take n held ++ later))) front
-        (HasRead-start limits captures before (g.R.Read.remaining c.args.input.now) lines start held c.new-reader.ensures.1 taken (omega (arith, c.requires.room, c.requires.begun.1)) c.requires.begun.0 plain),
+            (HasRead-start limits captures before (g.R.Read.remaining c.args.input.now) lines start held c.new-reader.ensures.1 taken (omega (arith, c.requires.room, c.requires.begun.1)) c.requires.begun.0 plain),
       ),
     )
 
