@@ -1,4 +1,4 @@
--- A capture that is read again gives the same, where its octets are known.
+-- A recording that is read again gives the same, where its octets are known.
 use Rattle.std.proofs.Common.{◌≡◌, ◌≤◌, ◌<◌, ◌++◌, ◌∷◌, [], ℕ, Bool, false, true, true≢false, List, length, map, take, refl, sym, ap, subst, ◌∙◌, append-nil, arith}
 use Rattle.std.specs.Prelude.{None, Option, Some, Result, Ok, Err}
 use Rattle.std.specs.Option.{option_map}
@@ -76,7 +76,7 @@ intake_more before one tally acts tallied said =
     let counted = ap (λ (t : Tally). map tallies (sums.octets_of before) ++ t ∷ []) tallied ∙ sym (map-append tallies (sums.octets_of before) (one.octets ∷ [])) ∙ ap (map tallies) (sym (octets_more before one)) in
     λ i. record { tallies = counted i; acts = told i; announcing = told i }
 
--- ---- all of a capture
+-- ---- all of a recording
 
 -- all of it was read
 pub whole_of : (limits : Limits) (captures : Captures) (all : List ℕ) (before now : Option (List ℕ)) (Took : List course.DatagramValue → Type 0) (whole : WholeCapture) → before ≡ Some all

@@ -29,7 +29,7 @@ pub(crate) struct Stop {
     fault: CaptureFault,
 }
 
-/// How captures are read.
+/// How recordings are read.
 #[derive(Clone, Copy)]
 pub(crate) struct CaptureTerms {
     pub(crate) alloc: Global,

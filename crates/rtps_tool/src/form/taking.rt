@@ -4,7 +4,7 @@ ghost use Rattle.rtps_capture.specs.Course as course;
 use rtps_capture::Datagram;
 use rtps_ids::Memory;
 
-/// Is told the datagrams of a capture, one after another.
+/// Is told the datagrams of a recording, one after another.
 pub(crate) trait Take {
     /// From what it was at first, it was told these datagrams and is what it is.
     ghost has_taken: { Self → List course.DatagramValue → Self → Type 0 };

@@ -7,7 +7,7 @@ use rtps_capture::Datagram;
 use rtps_ids::Memory;
 use std::hash::{DefaultHasher, Hasher};
 
-/// A pass over the datagrams of a capture: its taker, and a sum over the datagrams that it was told.
+/// A pass over the datagrams of a recording: its taker, and a sum over the datagrams that it was told.
 #[derive(Drop)]
 pub(crate) struct Pass<T> {
     /// Its number, from 1 on.
