@@ -3,8 +3,8 @@
 
     tests/passes.py PROGRAM
 
-A capture in a file is read up to three times, and one from a pipe once. All examples and rows are read both ways, the rows as captures,
-too, and so are random captures, of which many have faults, and captures within limits. Then a capture is changed before each pass over it:
+A recording in a file is read up to three times, and one from a pipe once. All examples and rows are read both ways, the rows as captures,
+too, and so are random captures, of which many have faults, small texts, and recordings within limits. Then a recording is changed before each pass over it:
 the same is told where it has only grown, and else that it changed. The last line is 'N passed, M failed'.
 
 tests/change_file.c changes the file. It is built with the compiler of the toolchain.
@@ -26,6 +26,9 @@ from reference import recording_of
 RUNS = [['list'], ['audit'], ['audit', '--from', '2'], ['audit', '--any'], ['list', '--any'], ['audit', '--fragments'], ['audit', '--json']]
 LIMITS = [[view, *words] for view in ('list', 'audit') for words in (
     ['--max-datagrams', '5'], ['--max-datagrams', '6'], ['--max-datagrams', '7'], ['--max-octets', '99'], ['--any', '--max-octets', '99'])]
+# texts that are short, empty, long or faulty
+TEXTS = [b'', b'5', b'52', b'52\r', b'#', b'\r\n', b'zz\n', b'52\n5\n', b'\n\n\n\n', b'5254\nzz', b'52\n' * 8, b'#' + b'5' * 200000 + b'\n52', b'5' * 131070,
+         b'5' * 131072, b'#\n' * 70000 + b'5']
 # how many random captures are read both ways
 DRAWN = 300
 # a pair is judged by two passes here, and by three there, since a payload came again
@@ -86,7 +89,11 @@ def both_ways(tests):
             if path.endswith('.rec'):
                 tests.is_told_alike(f'{name} as a capture', as_capture(octets), RUNS)
             count += 1
-    tests.is_told_alike('a capture within limits', as_capture(file_of('examples', 'pose.rec')), LIMITS)
+    text = file_of('examples', 'pose.rec')
+    tests.is_told_alike('a text within limits', text, LIMITS)
+    tests.is_told_alike('a capture within limits', as_capture(text), LIMITS)
+    for place, text in enumerate(TEXTS):
+        tests.is_told_alike(f'text {place}', text, RUNS + LIMITS)
     rng = random.Random(0)
     for place in range(DRAWN):
         tests.is_told_alike(f'random capture {place}', some_capture(rng), [['list', '--any'], ['audit', '--any'], ['audit']])
@@ -95,20 +102,25 @@ def both_ways(tests):
 
 def changes(tests):
     """files that change before a pass"""
-    for name, passes in ((ONCE, 2), (AGAIN, 3)):
-        octets = as_capture(file_of('tests', 'rows', f'{name}.rec'))
-        whole = tests.piped(['audit'], octets)
-        more = octets + record(packet(b'RTPS'))
-        others = [('one octet', octets[:-1] + bytes([octets[-1] ^ 1])), ('its end', octets[:-9]), ('its last frame', octets[:len(octets) // 2]),
-                  ('all', b'\n' * len(octets)), ('all but its size', bytes(len(octets))), ('itself away', b'')]
-        for at in range(2, passes + 1):
-            tests.holds(f'{name} grows before pass {at}', whole, tests.changed(['audit'], octets, more, at))
-            for what, other in others:
-                tests.holds(f'{name} changes {what} before pass {at}', CHANGED, tests.changed(['audit'], octets, other, at))
-        tests.holds(f'{name} grows before it is read', tests.piped(['audit'], more), tests.changed(['audit'], octets, more, 1))
-        tests.holds(f'{name} changes behind its last pass', whole, tests.changed(['audit'], octets, b'', passes + 1))
-        tests.holds(f'{name} changes behind the one pass of list', tests.piped(['list'], octets), tests.changed(['list'], octets, b'', 2))
+    for row, passes in ((ONCE, 2), (AGAIN, 3)):
+        text = file_of('tests', 'rows', f'{row}.rec')
+        changes_of(tests, row, passes, text, text + b'52545053\n')
+        changes_of(tests, f'{row} as a capture', passes, as_capture(text), as_capture(text) + record(packet(b'RTPS')))
     print('a file changes before each pass')
+
+
+def changes_of(tests, name, passes, octets, more):
+    """one that changes: more octets are what it grows to"""
+    whole = tests.piped(['audit'], octets)
+    others = [('one octet', octets[:-1] + bytes([octets[-1] ^ 1])), ('its end', octets[:-9]), ('its last frame', octets[:len(octets) // 2]),
+              ('all', b'\n' * len(octets)), ('all but its size', bytes(len(octets))), ('itself away', b'')]
+    for at in range(2, passes + 1):
+        tests.holds(f'{name} grows before pass {at}', whole, tests.changed(['audit'], octets, more, at))
+        for what, other in others:
+            tests.holds(f'{name} changes {what} before pass {at}', CHANGED, tests.changed(['audit'], octets, other, at))
+    tests.holds(f'{name} grows before it is read', tests.piped(['audit'], more), tests.changed(['audit'], octets, more, 1))
+    tests.holds(f'{name} changes behind its last pass', whole, tests.changed(['audit'], octets, b'', passes + 1))
+    tests.holds(f'{name} changes behind the one pass of list', tests.piped(['list'], octets), tests.changed(['list'], octets, b'', 2))
 
 
 def main():
