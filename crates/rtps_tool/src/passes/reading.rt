@@ -1,6 +1,6 @@
 //! A recording that is read again from its start.
 
-ghost use Rattle.std.specs.Prelude.{ℕ, ◌≡◌, [], List, Some, IfErr, MatchResult};
+ghost use Rattle.std.specs.Prelude.{ℕ, ◌≡◌, [], List, Some, length, IfErr, MatchResult};
 ghost use Rattle.std.specs.Hash.DefaultHasher as sip;
 ghost use Rattle.rtps_tool.specs.CaptureBlocks as capture_blocks;
 ghost use Rattle.rtps_tool.specs.Passes as passes_spec;
@@ -45,13 +45,30 @@ fn read_pass<R: Read, T: Take>(
     ensures fault { IfErr result passes_spec.IsReadFault }
 {
     let mut held = zeros(terms.alloc, HELD)?;
-    let start = read_start(input, &mut held)?;
+    take_held(terms, input, &mut held, taker)
+}
+
+/// The same, where the first octets are held here, and what is held of a text.
+fn take_held<R: Read, T: Take>(
+    terms: CaptureTerms,
+    input: &mut R,
+    held: &mut [u8],
+    taker: &mut T,
+) -> Result<Whole, RunFault>
+    requires room { length held.old ≡ 196607 }
+    ensures known { (all : List ℕ) (start : T) → R.remaining input.old ≡ Some all → T.has_taken start [] taker.old
+        → MatchResult result
+        (passes_spec.IsFoundOf terms.limits terms.captures all (λ datagrams. T.has_taken start datagrams taker.new))
+        (passes_spec.FailsOn terms.limits terms.captures all) }
+    ensures fault { IfErr result passes_spec.IsReadFault }
+{
+    let start = read_start(input, held)?;
     if start < FORM {
         let octets = take_short(terms, &held[..start], taker)?;
         return Ok(Whole::Text(octets));
     }
     if !begins_capture(terms.captures, &held[..start]) {
-        let octets = take_text(terms, input, &mut held, start, taker)?;
+        let octets = take_text(terms, input, held, start, taker)?;
         return Ok(Whole::Text(octets));
     }
     let whole = take_capture(terms, input, &held[..start], taker)?;

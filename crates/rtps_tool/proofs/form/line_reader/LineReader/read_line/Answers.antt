@@ -45,8 +45,10 @@ returns-clause-told g c = λ done start told.
     let found : recording_text.line_fault c.args.most (length done) number line ≡ None = grind (arith, nat_tests, c.in_ok-decode_line.ensures.found) in
     let octets = pairs.octets_of line in
     let is = c.in_ok-decode_line.ensures.octets c.if-not-branch.false in
-    let more = c.in_ok-take.ensures start (recording_text.untimed done) told.told in (
+    let is_octets : c.deref.result.now ≡ octets = c.deref.ensures.value ∙ is in
+    let Told = λ (one : List ℕ). let value : course.DatagramValue = record { octets = one; time = None; frame = 0 } in g.T.Take.has_taken start (recording_text.untimed done ++ value ∷ []) c.take.new.self in
+    let more = subst Told is_octets (c.in_ok-take.ensures start (recording_text.untimed done) told.told) in (
       octets ∷ [],
       recording_of_lines-taken _ number _ line [] (cc) found ∙ ap (unfinished.with_front (octets ∷ [])) (recording_of_lines-nil _ _ _),
-      record { told = rw (untimed-more done octets, ← is) more; count = omega (arith, length-append done (octets ∷ [])) },
+      record { told = rw (untimed-more done octets) more; count = omega (arith, length-append done (octets ∷ [])) },
     )
