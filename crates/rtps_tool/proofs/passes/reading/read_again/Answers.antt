@@ -1,7 +1,6 @@
-use Rattle.std.proofs.Common.{MutBor, ◌≡◌, ◌∙◌, List, ap, arith, sym}
+use Rattle.std.proofs.Common.{MutBor, ◌∙◌, List, ap, arith, sym}
 use Rattle.std.specs.Hash.DefaultHasher as sip
 use Rattle.rtps_capture.specs.Course as course
-use Rattle.rtps_tool.specs.Sums as sums
 use Rattle.rtps_tool.specs.declared.passes.pass.Pass.{Pass}
 use Rattle.rtps_tool.proofs.PassesLemmas.{all_within, fails_again, not_changed, read_fault_again, size_of_whole}
 use Rattle.rtps_tool.proofs.passes.reading.read_again.Goals as goal

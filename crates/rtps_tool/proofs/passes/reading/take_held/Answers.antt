@@ -1,5 +1,4 @@
 use Rattle.std.proofs.Common.{◌≡◌, ◌∙◌, None, false, sym, take}
-use Rattle.std.specs.Io.KnownBytes.{Consumes}
 use Rattle.std.proofs.lemmas.Result.{err_from_is_err_and}
 use Rattle.rtps_tool.specs.Forms as forms
 use Rattle.rtps_tool.proofs.PassesLemmas.{nothing_written, text_of, whole_of}
