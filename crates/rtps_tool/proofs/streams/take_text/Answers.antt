@@ -1,4 +1,4 @@
-use Rattle.std.proofs.Common.{◌≡◌, [], ◌++◌, ◌+◌, ◌-◌, ◌<◌, ◌≤◌, ◌∙◌, ℕ, List, drop, length, take, refl, sym, ap, subst, arith}
+use Rattle.std.proofs.Common.{◌≡◌, None, [], ◌++◌, ◌+◌, ◌-◌, ◌<◌, ◌≤◌, ◌∙◌, ℕ, List, drop, length, take, refl, sym, ap, subst, arith}
 use Rattle.std.specs.List.{position}
 use Rattle.std.proofs.lemmas.List.{length-append, length-take, take-append-le}
 use Rattle.std.proofs.lemmas.Result.{err_from_is_err_and}
@@ -23,7 +23,7 @@ pieces-init g c =
       omega arith,
       omega (arith, c.requires.begun.1),
       omega (arith, c.new-reader.ensures.1),
-      refl,
+      refl {a = None},
       λ before first plain taken told. (
         [],
         record { told = told; count = c.new-reader.ensures.0 },
