@@ -1,6 +1,6 @@
 //! A capture that is read again from its start.
 
-ghost use Rattle.std.specs.Prelude.{ℕ, ◌≡◌, [], List, Some, IfErr, IfSome, MatchResult};
+ghost use Rattle.std.specs.Prelude.{ℕ, ◌≡◌, [], length, List, Some, IfErr, IfSome, MatchResult};
 ghost use Rattle.std.specs.Hash.DefaultHasher as sip;
 ghost use Rattle.rtps_tool.specs.CaptureBlocks as capture_blocks;
 ghost use Rattle.rtps_tool.specs.Passes as passes_spec;
@@ -24,7 +24,7 @@ pub(crate) fn rewind<R: Read, S: Source<R>>(
     reader: &mut R,
     pass: u8,
 ) -> Result<(), RunFault>
-    ensures { MatchResult result (λ _. R.remaining reader.new ≡ S.octets source.now) (λ fault. fault ≡ Input) }
+    ensures { MatchResult result (λ _. IfSome (S.octets source.now) (λ all. R.remaining reader.new ≡ Some all)) (λ fault. fault ≡ Input) }
 {
     match source.rewind(reader, pass) {
         Ok(()) => Ok(()),
@@ -45,7 +45,24 @@ fn read_pass<R: Read, T: Take>(
     ensures fault { IfErr result passes_spec.IsReadFault }
 {
     let mut held = zeros(terms.alloc, HELD)?;
-    let start = read_start(input, &mut held)?;
+    take_input(terms, input, &mut held, taker)
+}
+
+/// The same by way of what is held of the input.
+fn take_input<R: Read, T: Take>(
+    terms: CaptureTerms,
+    input: &mut R,
+    held: &mut [u8],
+    taker: &mut T,
+) -> Result<Option<WholeCapture>, RunFault>
+    requires room { length held.old ≡ 196607 }
+    ensures known { (all : List ℕ) (start : T) → R.remaining input.old ≡ Some all → T.has_taken start [] taker.old
+        → MatchResult result
+        (passes_spec.IsFoundOf terms.limits terms.captures all (λ datagrams. T.has_taken start datagrams taker.new))
+        (passes_spec.FailsOn terms.limits terms.captures all) }
+    ensures fault { IfErr result passes_spec.IsReadFault }
+{
+    let start = read_start(input, held)?;
     if start < FORM {
         return Ok(None);
     }
