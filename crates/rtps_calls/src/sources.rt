@@ -17,6 +17,7 @@ const START: &[u8] = b"\xd4\xc3\xb2\xa1\x02\0\x04\0\0\0\0\0\0\0\0\0\xff\xff\0\0\
 
 /// The sizes of the headers of IP and UDP.
 const IP_SIZE: usize = 20;
+
 const UDP_SIZE: usize = 8;
 
 /// A capture in memory, and what it is from the second pass on.
@@ -88,7 +89,10 @@ pub(crate) fn push_sources(
 ) -> Result<(), Fault> {
     let capture = capture_of(alloc, recording)?;
     let audit = Command::Audit(AskedAudit::plainly(SeqNum::first()));
-    for (name, command) in [("list by passes", Command::List(Fragments::Skipped)), ("audit by passes", audit)] {
+    for (name, command) in [
+        ("list by passes", Command::List(Fragments::Skipped)),
+        ("audit by passes", audit),
+    ] {
         let mut written = Vec::new(alloc);
         let source = Captured {
             first: &capture,

@@ -20,6 +20,7 @@ pub use demands::Demands;
 pub use faults::{BesideFault, RecFault, RunFault, status, write_fault, write_other_fault};
 pub use follow::Follow;
 pub use form::either::{read_recording, read_recording_within};
+pub use passes::run_passes;
 pub use rtps_capture::{
     CAPTURE_HEADER_SIZE, Captures, LinkType, is_pcapng, link_type_numbered, unread_link_type,
 };
@@ -27,7 +28,6 @@ pub use rtps_parts::NameOctets;
 pub use rtps_report::{
     Asked, AskedAudit, Datagrams, Ending, FewRows, Findings, Fragments, Recording, Unwatched, Watch,
 };
-pub use passes::run_passes;
 pub use runs::{
     Command, Form, Inputs, Limits, Options, run, run_audit, run_audit_from, run_beside, run_list,
     run_sample, run_show,

@@ -45,12 +45,7 @@ impl Collected {
     }
 
     /// Collects one datagram more. `Memory` is answered, too, where it has no span ([`DatagramSpan::new`]).
-    fn push(
-        &mut self,
-        octets: &[u8],
-        time: Option<u64>,
-        frame: u64,
-    ) -> Result<(), Memory>
+    fn push(&mut self, octets: &[u8], time: Option<u64>, frame: u64) -> Result<(), Memory>
         ensures { OnOk result (self.new ≡ collected_spec.with_one self.old octets.now time frame) }
     {
         let from = self.octets.len();
