@@ -200,13 +200,7 @@ fn run_chosen<'a, W: Write>(
         source: inputs.file.opened(),
         reader: &mut inputs.file,
     };
-    Ok(run_passes(
-        rt.alloc(),
-        &options,
-        &mut input,
-        output,
-        progress,
-    )?)
+    Ok(run_passes(rt.alloc(), &options, &mut input, output, progress)?)
 }
 
 /// How many passes are made over FILE at most, if it is a capture in a file.

@@ -1,6 +1,6 @@
 -- A recording that is read again gives the same, where its octets are known.
 use Rattle.std.proofs.Common.{◌≡◌, ◌≤◌, ◌++◌, ◌∷◌, [], ℕ, Bool, false, true, true≢false, List, length, map, take, refl, sym, ap, subst, ◌∙◌, append-nil, arith}
-use Rattle.std.specs.Prelude.{None, Option, Some, Result, Ok, Err}
+use Rattle.std.specs.Prelude.{IfSome, MatchResult, None, Option, Some, Result, Ok, Err}
 use Rattle.std.specs.Option.{option_map}
 use Rattle.std.specs.Io.KnownBytes.{Appends, Consumes, Keeps}
 use Rattle.std.specs.Hash.DefaultHasher as sip
@@ -21,13 +21,20 @@ use Rattle.rtps_audit.specs.RunVerdict as run_verdict
 use Rattle.rtps_audit.specs.Speech as speech
 use Rattle.rtps_audit.specs.declared.report.Report.{Report}
 use Rattle.rtps_audit.specs.declared.report.Row.{Row}
+use Rattle.rtps_discovery.specs.Directory as directory_spec
+use Rattle.rtps_discovery.specs.Notice as notice
 use Rattle.rtps_fragments.specs.Laws as fragments_laws
+use Rattle.rtps_fragments.specs.RecordedSamples as recorded_samples
 use Rattle.rtps_fragments.specs.SampleReport as sample_report
+use Rattle.rtps_fragments.specs.declared.fragments.Fragments.{Fragments}
 use Rattle.rtps_capture.specs.Agreement as agreement
 use Rattle.rtps_capture.specs.Course as course
 use Rattle.rtps_capture.specs.declared.captures.Captures.{Captures}
 use Rattle.rtps_report.specs.Recording as recording
+use Rattle.rtps_report.specs.declared.audited.AskedAudit.{AskedAudit}
 use Rattle.rtps_report.specs.declared.findings.Ending.{Ending}
+use Rattle.rtps_text.specs.ListText as list_text
+use Rattle.rtps_text.specs.ReportText as report_text
 use Rattle.rtps_tool.specs.CaptureBlocks as blocks
 use Rattle.rtps_tool.specs.Collected as collected_spec
 use Rattle.rtps_tool.specs.Forms as forms
@@ -40,6 +47,7 @@ use Rattle.rtps_tool.specs.Sums as sums
 use Rattle.rtps_tool.specs.Unfinished as unfinished
 use Rattle.rtps_tool.specs.declared.faults.RecFault.{RecFault}
 use Rattle.rtps_tool.specs.declared.faults.RunFault.{RunFault}
+use Rattle.rtps_tool.specs.declared.form.capture_blocks.CaptureTerms.{CaptureTerms}
 use Rattle.rtps_tool.specs.declared.form.whole.Whole.{Whole}
 use Rattle.rtps_tool.specs.declared.form.whole_capture.WholeCapture.{WholeCapture}
 use Rattle.rtps_tool.specs.declared.passes.first_pass.FirstPass.{FirstPass}
@@ -185,6 +193,10 @@ read_fault_again (RunFault.Output written) is = is
 read_fault_again RunFault.Memory is = tt
 read_fault_again RunFault.Changed is = tt
 
+-- what a reader has that was taken to the start of known octets
+pub of_known : (octets left : Option (List ℕ)) (all : List ℕ) → IfSome octets (λ all. left ≡ Some all) → octets ≡ Some all → left ≡ Some all
+of_known octets left all is known = subst (λ (octets : Option (List ℕ)). IfSome octets (λ all. left ≡ Some all)) known is
+
 -- so many octets of it are all
 pub all_within : (n : ℕ) (all : List ℕ) (left : Option (List ℕ)) → left ≡ Some all → length all ≤ n → option_map (take n) left ≡ Some all
 all_within n all left known few = ap (option_map (take n)) known ∙ ap Some (take_all n all few)
@@ -260,7 +272,7 @@ reading_fails limits captures IsPrinted (Some all) held holds RunFault.Changed k
 reading_fails limits captures IsPrinted (Some all) held holds (RunFault.Output written) keeps before fails = absurd before
 
 -- a run that reads once
-pub runs_once : (limits : Limits) (captures : Captures) (IsPrinted : recording.RecordingValue → List ℕ → Ending → Type 0) (octets unread left held holds : Option (List ℕ)) (result : Result Ending RunFault) → unread ≡ octets
+pub runs_once : (limits : Limits) (captures : Captures) (IsPrinted : recording.RecordingValue → List ℕ → Ending → Type 0) (octets unread left held holds : Option (List ℕ)) (result : Result Ending RunFault) → IfSome octets (λ all. unread ≡ Some all)
     → runs.RunsWithin limits captures IsPrinted unread left held holds result → passes.RunsSource limits captures IsPrinted octets held holds result
 runs_once limits captures IsPrinted (Some all) unread left held holds result same is = (left, subst (λ (u : Option (List ℕ)). runs.RunsWithin limits captures IsPrinted u left held holds result) same is)
 runs_once limits captures IsPrinted None unread left held holds (Ok ending) same is = (is.1, is.4)
@@ -277,3 +289,60 @@ again_fails limits captures all RunFault.Memory is = (None, tt)
 again_fails limits captures all (RunFault.Recording fault) is = absurd is
 again_fails limits captures all (RunFault.Output written) is = absurd is
 again_fails limits captures all RunFault.Changed is = absurd is
+
+-- a run that writes what was told
+pub told_runs : (limits : Limits) (captures : Captures) (IsPrinted : recording.RecordingValue → List ℕ → Ending → Type 0) (octets held holds : Option (List ℕ)) (text : List ℕ) (ending : Ending) (result : Result Ending RunFault)
+    → MatchResult result (λ ends. (ends ≡ ending) × Appends held holds text) (runs.FailsWriting held holds text)
+    → ((all : List ℕ) → octets ≡ Some all → passes.Tells limits captures IsPrinted all text ending) → passes.RunsSource limits captures IsPrinted octets held holds result
+told_runs limits captures IsPrinted octets held holds text ending (Ok ends) wrote told =
+    subst (λ (e : Ending). passes.RunsSource limits captures IsPrinted octets held holds (Ok e)) (sym wrote.0) (tells_run limits captures IsPrinted octets held holds text ending wrote.1 told)
+told_runs limits captures IsPrinted octets held holds text ending (Err fault) fails told = writing_fails limits captures IsPrinted octets held holds text ending fault fails told
+
+-- ---- what is told of all of a capture
+
+-- the first pass was by these terms
+of_terms : (first : FirstPass) (terms : CaptureTerms) (IsPrinted : recording.RecordingValue → List ℕ → Ending → Type 0) (all text : List ℕ) (ending : Ending) → first.terms ≡ terms
+    → passes.Tells first.terms.limits first.terms.captures IsPrinted all text ending → passes.Tells terms.limits terms.captures IsPrinted all text ending
+of_terms first terms IsPrinted all text ending same told = subst (λ (t : CaptureTerms). passes.Tells t.limits t.captures IsPrinted all text ending) same told
+
+pub list_tells : agreement.CourseIsTold → (terms : CaptureTerms) (all : List ℕ) (first : FirstPass) (fragments : Fragments) (directory : directory_spec.DirectoryValue) (faults : ℕ) (text : List ℕ) → first.terms ≡ terms → passes.IsFirstOf all first
+    → fragments ≡ Fragments.Skipped → directory_spec.IsMapOf (intake_spec.acts_together (speech.acts_by_datagram (passes.octets_in first all))) directory
+    → faults ≡ notice.faults_in (intake_spec.acts_together (speech.acts_by_datagram (passes.octets_in first all))) → text ≡ list_text.directory_text directory faults
+    → passes.Tells terms.limits terms.captures (list_text.IsListedWith fragments) all text Ending.Clean
+list_tells law terms all first fragments directory faults text same is skipped map counted told =
+    let stands = whole_recording law first.terms.limits first.terms.captures all first.whole is.whole in
+    let acts = acts_together (passes.octets_in first all) ∙ ap acts_spec.acts_in (sym stands.datagrams) in
+    let listed : list_text.IsListedWith Fragments.Skipped stands.recording text Ending.Clean = (
+      (
+        directory,
+        subst (λ (acts : List values.ActValue). directory_spec.IsMapOf acts directory) acts map,
+        told ∙ ap (list_text.directory_text directory) (counted ∙ ap notice.faults_in acts),
+      ),
+      refl,
+    ) in
+    of_terms first terms (list_text.IsListedWith fragments) all text Ending.Clean same (
+      stands.recording,
+      stands.is,
+      subst (λ (f : Fragments). list_text.IsListedWith f stands.recording text Ending.Clean) (sym skipped) listed,
+    )
+
+pub audit_tells : agreement.CourseIsTold → fragments_laws.ActsAreHeardWithoutFragments → (terms : CaptureTerms) (all : List ℕ) (first : FirstPass) (asked : AskedAudit) (report : Report) (text : List ℕ) (ending : Ending) → first.terms ≡ terms
+    → passes.IsFirstOf all first → asked.fragments ≡ Fragments.Skipped → fragments_laws.SendNoFragments (speech.acts_by_datagram (passes.octets_in first all))
+    → delivered.IsExactReportBy asked.from (intake_spec.intake_of (passes.octets_in first all)) report
+    → text ≡ report_text.report_text report.rows.items report.counts (passes.ignored_in first.whole) → ending ≡ report_text.ending_of report.rows.items
+    → passes.Tells terms.limits terms.captures (report_text.IsAuditedAs asked) all text ending
+audit_tells law stay terms all first asked report text ending same is skipped unsent exact told ends =
+    let octets = passes.octets_in first all in
+    let stands = whole_recording law first.terms.limits first.terms.captures all first.whole is.whole in
+    let heard = plain_report stay asked.from (intake_spec.intake_of octets) report unsent exact.report in
+    of_terms first terms (report_text.IsAuditedAs asked) all text ending same (
+      stands.recording,
+      stands.is,
+      record {
+        report = report;
+        reports = subst (λ (datagrams : List (List ℕ)). sample_report.IsReportHeard asked.from (recorded_samples.intake_as asked.fragments datagrams) report) (sym stands.datagrams)
+            (subst (λ (f : Fragments). sample_report.IsReportHeard asked.from (recorded_samples.intake_as f octets) report) (sym skipped) heard);
+        is_text = told ∙ ap (report_text.report_text report.rows.items report.counts) (sym stands.ignored);
+        ends = ends;
+      },
+    )

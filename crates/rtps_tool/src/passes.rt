@@ -1,6 +1,7 @@
 //! Runs that read a recording more than once, and keep no datagram of it.
 
 ghost use Rattle.std.specs.Prelude.{ℕ, ◌≡◌, List, None, Some, IfErr, IfSome, MatchResult, string_bytes};
+ghost use Rattle.std.specs.Io.KnownBytes.{Appends};
 ghost use Rattle.rtps_audit.specs.Delivered as delivered;
 ghost use Rattle.rtps_audit.specs.Intake as intake_spec;
 ghost use Rattle.rtps_audit.specs.Speech as speech;
@@ -13,6 +14,7 @@ ghost use Rattle.rtps_text.specs.ReportText as report_text_spec;
 ghost use Rattle.rtps_tool.specs.CaptureBlocks as capture_blocks;
 ghost use Rattle.rtps_tool.specs.Commands as commands;
 ghost use Rattle.rtps_tool.specs.Passes as passes_spec;
+ghost use Rattle.rtps_tool.specs.Runs as runs_spec;
 
 mod first_pass;
 mod pass;
@@ -57,18 +59,35 @@ pub fn run_passes<R: Read, S: Source<R>, W: Write, P: Watch + Follow>(
     ensures { passes_spec.RunsSource options.now.limits options.now.captures (commands.IsTextOf (commands.command_value options.now.command) None)
         (S.octets input.old.source) (W.contents output.old) (W.contents output.new) result }
 {
-    let source = &input.source;
-    let reader = &mut input.reader;
-    match passes_text(alloc, options, source, reader, watch)? {
-        Some((text, ending)) => {
-            write_text(text.as_bytes(), output)?;
-            Ok(ending)
-        }
-        None => {
-            rewind(source, reader, 0)?;
-            run(alloc, options, reader, output, watch)
-        }
+    match passes_text(alloc, options, &input.source, &mut input.reader, watch)? {
+        Some(told) => write_told(&told, output),
+        None => run_once(alloc, options, input, output, watch),
     }
+}
+
+/// Writes a text, and answers how the run ends that writes it.
+fn write_told<W: Write>(told: &(String, Ending), output: &mut W) -> Result<Ending, RunFault>
+    ensures { MatchResult result
+        (λ ending. (ending ≡ told.now.1) × Appends (W.contents output.old) (W.contents output.new) (string_bytes told.now.0))
+        (runs_spec.FailsWriting (W.contents output.old) (W.contents output.new) (string_bytes told.now.0)) }
+{
+    write_text(told.0.as_bytes(), output)?;
+    Ok(told.1)
+}
+
+/// [`run`] of a source, which is read once.
+fn run_once<R: Read, S: Source<R>, W: Write, P: Watch + Follow>(
+    alloc: Global,
+    options: &Options<'_>,
+    input: &mut Rereading<S, R>,
+    output: &mut W,
+    watch: &mut P,
+) -> Result<Ending, RunFault>
+    ensures { passes_spec.RunsSource options.now.limits options.now.captures (commands.IsTextOf (commands.command_value options.now.command) None)
+        (S.octets input.old.source) (W.contents output.old) (W.contents output.new) result }
+{
+    rewind(&input.source, &mut input.reader, 0)?;
+    run(alloc, options, &mut input.reader, output, watch)
 }
 
 /// What is printed by passes over a source, and how the run ends. None where the command is none that goes by passes.

@@ -1,4 +1,4 @@
-ghost use Rattle.std.specs.Prelude.{ℕ, ◌≡◌, List, None, OnOk, Option};
+ghost use Rattle.std.specs.Prelude.{ℕ, ◌≡◌, List, None, IfSome, OnOk, Option, Some};
 
 use std::io::{self, Read};
 
@@ -9,7 +9,7 @@ pub trait Source<R: Read> {
 
     /// Has its reader read it from its start. This pass over it is so numbered, from 1 on; 0 is for an input that is read once.
     fn rewind(&self, reader: &mut R, pass: u8) -> io::Result<()>
-        ensures { OnOk result (R.remaining reader.new ≡ octets self.now) };
+        ensures { OnOk result (IfSome (octets self.now) (λ all. R.remaining reader.new ≡ Some all)) };
 }
 
 /// A source and its reader.

@@ -1,6 +1,6 @@
 //! A recording that is read again from its start.
 
-ghost use Rattle.std.specs.Prelude.{ℕ, ◌≡◌, [], List, Some, length, IfErr, MatchResult};
+ghost use Rattle.std.specs.Prelude.{ℕ, ◌≡◌, [], length, List, Some, IfErr, IfSome, MatchResult};
 ghost use Rattle.std.specs.Hash.DefaultHasher as sip;
 ghost use Rattle.rtps_tool.specs.CaptureBlocks as capture_blocks;
 ghost use Rattle.rtps_tool.specs.Passes as passes_spec;
@@ -24,7 +24,7 @@ pub(crate) fn rewind<R: Read, S: Source<R>>(
     reader: &mut R,
     pass: u8,
 ) -> Result<(), RunFault>
-    ensures { MatchResult result (λ _. R.remaining reader.new ≡ S.octets source.now) (λ fault. fault ≡ Input) }
+    ensures { MatchResult result (λ _. IfSome (S.octets source.now) (λ all. R.remaining reader.new ≡ Some all)) (λ fault. fault ≡ Input) }
 {
     match source.rewind(reader, pass) {
         Ok(()) => Ok(()),
@@ -45,11 +45,11 @@ fn read_pass<R: Read, T: Take>(
     ensures fault { IfErr result passes_spec.IsReadFault }
 {
     let mut held = zeros(terms.alloc, HELD)?;
-    take_held(terms, input, &mut held, taker)
+    take_input(terms, input, &mut held, taker)
 }
 
 /// The same, where the first octets are held here, and what is held of a text.
-fn take_held<R: Read, T: Take>(
+fn take_input<R: Read, T: Take>(
     terms: CaptureTerms,
     input: &mut R,
     held: &mut [u8],

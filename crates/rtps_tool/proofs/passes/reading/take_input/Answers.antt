@@ -2,7 +2,7 @@ use Rattle.std.proofs.Common.{◌≡◌, ◌∙◌, None, false, sym, take}
 use Rattle.std.proofs.lemmas.Result.{err_from_is_err_and}
 use Rattle.rtps_tool.specs.Forms as forms
 use Rattle.rtps_tool.proofs.PassesLemmas.{nothing_written, text_of, whole_of}
-use Rattle.rtps_tool.proofs.passes.reading.take_held.Goals as goal
+use Rattle.rtps_tool.proofs.passes.reading.take_input.Goals as goal
 
 pub returns-then-start-lt-FORM-clause-known : goal.returns-then-start-lt-FORM-clause-known
 returns-then-start-lt-FORM-clause-known g c = λ all start known was.
