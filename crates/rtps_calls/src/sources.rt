@@ -1,4 +1,4 @@
-//! Runs over a capture in memory that is read again: one that stays, and one that changes meanwhile.
+//! Runs over a recording in memory that is read again: one that stays, and one that changes meanwhile.
 
 use crate::fault::Fault;
 use crate::texts::push_run;
@@ -20,13 +20,13 @@ const IP_SIZE: usize = 20;
 
 const UDP_SIZE: usize = 8;
 
-/// A capture in memory, and what it is from the second pass on.
-struct Captured<'a> {
+/// A recording in memory, and what it is from the second pass on.
+struct Recorded<'a> {
     first: &'a [u8],
     later: &'a [u8],
 }
 
-impl<'a> Source<&'a [u8]> for Captured<'a> {
+impl<'a> Source<&'a [u8]> for Recorded<'a> {
     fn rewind(&self, reader: &mut &'a [u8], pass: u8) -> io::Result<()> {
         *reader = if pass < 2 { self.first } else { self.later };
         Ok(())
@@ -68,7 +68,7 @@ fn capture_of(alloc: Global, recording: &Recording) -> Result<Vec<u8>, AllocErro
 fn run_twice(
     alloc: Global,
     command: Command<'_>,
-    source: Captured<'_>,
+    source: Recorded<'_>,
     written: &mut Vec<u8>,
 ) -> Result<Ending, RunFault> {
     let options = Options {
@@ -81,33 +81,43 @@ fn run_twice(
     run_passes(alloc, &options, &mut input, written, &mut Unwatched)
 }
 
-/// Appends what runs by passes write of a recording, and that a change is told.
+/// Appends what runs by passes write of a text and of a capture of its datagrams, and that a change is told.
 pub(crate) fn push_sources(
     alloc: Global,
+    octets: &[u8],
     recording: &Recording,
     text: &mut String,
 ) -> Result<(), Fault> {
     let capture = capture_of(alloc, recording)?;
+    for (form, octets) in [("text", octets), ("capture", capture.as_slice())] {
+        writeln!(text, "-- a {form} by passes")?;
+        push_passes(alloc, octets, text)?;
+    }
+    Ok(())
+}
+
+/// Appends what runs by passes write of a recording, and that a change is told.
+fn push_passes(alloc: Global, octets: &[u8], text: &mut String) -> Result<(), Fault> {
     let audit = Command::Audit(AskedAudit::plainly(SeqNum::first()));
     for (name, command) in [
         ("list by passes", Command::List(Fragments::Skipped)),
         ("audit by passes", audit),
     ] {
         let mut written = Vec::new(alloc);
-        let source = Captured {
-            first: &capture,
-            later: &capture,
+        let source = Recorded {
+            first: octets,
+            later: octets,
         };
         let ending = run_twice(alloc, command, source, &mut written)?;
         push_run(name, written, ending, text)?;
     }
     let mut written = Vec::new(alloc);
-    let source = Captured {
-        first: &capture,
+    let source = Recorded {
+        first: octets,
         later: START,
     };
     match run_twice(alloc, audit, source, &mut written) {
-        Err(fault) => writeln!(text, "-- audit of a capture that changes: {fault}")?,
+        Err(fault) => writeln!(text, "-- audit of what changes: {fault}")?,
         Ok(_) => return Err(Fault::Differs("a change is not told")),
     }
     Ok(())

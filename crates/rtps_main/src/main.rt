@@ -203,7 +203,7 @@ fn run_chosen<'a, W: Write>(
     Ok(run_passes(rt.alloc(), &options, &mut input, output, progress)?)
 }
 
-/// How many passes are made over FILE at most, if it is a capture in a file.
+/// How many passes are made over FILE at most, if it is a file.
 fn passes_of(choice: &Choice) -> u8 {
     match choice {
         Choice::Audit { .. } => 3,
