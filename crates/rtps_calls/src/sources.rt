@@ -36,17 +36,18 @@ impl<'a> Source<&'a [u8]> for Recorded<'a> {
 
 /// Appends a number of two octets, the greater one first.
 fn push_number(octets: &mut Vec<u8>, number: usize) -> Result<(), AllocError> {
-    octets.extend_from_slice(&[(number >> 8 & 0xff) as u8, (number & 0xff) as u8])
+    let number = u16::try_from(number).unwrap_or(u16::MAX);
+    octets.extend_from_slice(&number.to_be_bytes())
 }
 
 /// Appends a frame that carries a datagram.
 fn push_frame(octets: &mut Vec<u8>, datagram: &[u8]) -> Result<(), AllocError> {
     let udp = datagram.len().saturating_add(UDP_SIZE);
     let ip = udp.saturating_add(IP_SIZE);
+    let size = u32::try_from(ip).unwrap_or(u32::MAX).to_le_bytes();
     octets.extend_from_slice(&[0; 8])?;
-    for _ in 0..2 {
-        octets.extend_from_slice(&(ip as u32).to_le_bytes())?;
-    }
+    octets.extend_from_slice(&size)?;
+    octets.extend_from_slice(&size)?;
     octets.extend_from_slice(b"\x45\0")?;
     push_number(octets, ip)?;
     octets.extend_from_slice(b"\0\0\0\0\x40\x11\0\0\x7f\0\0\x01\x7f\0\0\x01\0\x01\0\x01")?;
