@@ -15,7 +15,6 @@ use Rattle.rtps_tool.specs.Runs as runs
 use Rattle.clap.specs.Words.{Text}
 use Rattle.rtps_tool.specs.declared.faults.BesideFault.{BesideFault}
 use Rattle.rtps_capture.specs.declared.captures.Captures.{Captures}
-use Rattle.rtps_tool.specs.declared.faults.RunFault.{RunFault}
 use Rattle.rtps_tool.specs.declared.runs.Limits.{Limits}
 use Rattle.rtps_tool.proofs.LimitsLemmas.{stays_within}
 

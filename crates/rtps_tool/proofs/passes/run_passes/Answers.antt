@@ -1,9 +1,8 @@
-use Rattle.std.proofs.Common.{List, ℕ, None, Some, subst}
-use Rattle.std.specs.Prelude.{IfSome, Option, ◌≡◌, string_bytes}
+use Rattle.std.proofs.Common.{None}
+use Rattle.std.specs.Prelude.{string_bytes}
 use Rattle.std.proofs.KnownBytes.{Keeps-refl}
 use Rattle.std.proofs.lemmas.Result.{err_from_is_err_and}
 use Rattle.rtps_tool.specs.Commands as commands
-use Rattle.rtps_tool.specs.Passes as passes
 use Rattle.rtps_tool.proofs.PassesLemmas.{reading_fails, told_runs}
 use Rattle.rtps_tool.proofs.passes.run_passes.Goals as goal
 
