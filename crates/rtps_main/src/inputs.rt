@@ -1,9 +1,9 @@
 //! The inputs of a run, and what is known of them.
 
 use crate::progress::Progress;
-use rtps_tool::CAPTURE_HEADER_SIZE;
+use rtps_tool::{CAPTURE_HEADER_SIZE, Source};
 use std::fs::File;
-use std::io::{self, Read};
+use std::io::{self, Read, Seek};
 use std::rt::Stdin;
 
 /// How many octets are kept from the beginning of an input, to say why it is refused: as many as the header of a
@@ -54,7 +54,7 @@ impl Seen {
 
 /// Where an input comes from.
 #[derive(Drop)]
-enum Source {
+pub enum Opened {
     /// Nothing is read.
     Nothing,
     Standard(Stdin),
@@ -63,61 +63,125 @@ enum Source {
     Unopened(io::Error),
 }
 
-impl Source {
-    /// The file of this name, `-` for standard input.
-    fn open(rt: &HostRuntime, name: &str) -> Source {
+impl Opened {
+    /// The file of this name, `-` for standard input. Nothing is read where there is no name.
+    pub fn open(rt: &HostRuntime, name: Option<&str>) -> Opened {
+        let Some(name) = name else {
+            return Opened::Nothing;
+        };
         if name == "-" {
-            return Source::Standard(rt.stdin());
+            return Opened::Standard(rt.stdin());
         }
         match File::open(rt, name) {
-            Ok(file) => Source::File(file),
-            Err(error) => Source::Unopened(error),
+            Ok(file) => Opened::File(file),
+            Err(error) => Opened::Unopened(error),
         }
+    }
+
+    /// How many octets it has, if it is a regular file.
+    fn size(&self) -> Option<u64> {
+        let Opened::File(file) = self else {
+            return None;
+        };
+        let metadata = file.metadata().ok()?;
+        if metadata.is_file() {
+            Some(metadata.len())
+        } else {
+            None
+        }
+    }
+
+    /// Reads on.
+    fn read(&self, buf: &mut [u8]) -> io::Result<usize> {
+        match self {
+            Opened::Nothing => Ok(0),
+            Opened::Standard(input) => {
+                let mut input = *input;
+                input.read(buf)
+            }
+            Opened::File(file) => {
+                let mut file = file;
+                file.read(buf)
+            }
+            Opened::Unopened(error) => Err(same_error(error)),
+        }
+    }
+
+    /// Goes to the start. Only a file has one that can be gone to.
+    fn go_to_start(&self) -> io::Result<()> {
+        let Opened::File(file) = self else {
+            return Err(io::Error::from(io::ErrorKind::Unsupported));
+        };
+        let mut file = file;
+        file.rewind()
     }
 }
 
-impl Read for Source {
-    fn read(&mut self, buf: &mut [u8]) -> io::Result<usize> {
-        match self {
-            Source::Nothing => Ok(0),
-            Source::Standard(input) => input.read(buf),
-            Source::File(input) => input.read(buf),
-            Source::Unopened(error) => Err(same_error(error)),
+impl<'a> Source<&mut Remembering<'a>> for &'a Opened {
+    fn rewind(&self, reader: &mut &mut Remembering<'a>, pass: u8) -> io::Result<()> {
+        let outcome = self.go_to_start();
+        match &outcome {
+            Ok(()) => {
+                reader.pass = pass;
+                reader.seen = Seen::nothing();
+            }
+            Err(failure) => reader.seen.failure = Some(same_error(failure)),
         }
+        outcome
     }
 }
 
 /// An input that notes what was read of it, and shows progress.
 #[derive(Drop)]
 pub struct Remembering<'a> {
-    source: Source,
+    opened: &'a Opened,
+    /// How many octets it has, if it is a regular file.
+    size: Option<u64>,
+    /// The pass over it; 0 where it is read once.
+    pass: u8,
     progress: Progress<'a>,
     pub seen: Seen,
 }
 
 impl<'a> Remembering<'a> {
-    /// The file of this name, `-` for standard input. Nothing is read where there is no name. Of a file that cannot be opened a read
-    /// fails.
-    pub fn open(rt: &HostRuntime, name: Option<&str>, progress: Progress<'a>) -> Remembering<'a> {
-        let source = match name {
-            Some(name) => Source::open(rt, name),
-            None => Source::Nothing,
-        };
+    /// For an input of which nothing was read yet. Of a file that cannot be opened a read fails.
+    pub fn new(opened: &'a Opened, progress: Progress<'a>) -> Remembering<'a> {
         Remembering {
-            source,
+            opened,
+            size: opened.size(),
+            pass: 0,
             progress,
             seen: Seen::nothing(),
+        }
+    }
+
+    /// Where it comes from.
+    pub fn opened(&self) -> &'a Opened {
+        self.opened
+    }
+
+    /// Whether it is a regular file, which can be read again.
+    pub fn is_file(&self) -> bool {
+        self.size.is_some()
+    }
+
+    /// Shows how far it is read.
+    fn show(&mut self) {
+        let octets = self.seen.octets;
+        match self.size {
+            Some(size) if self.pass > 0 => self.progress.pass(self.pass, octets, size),
+            _ => self.progress.read(octets),
         }
     }
 }
 
 impl Read for Remembering<'_> {
     fn read(&mut self, buf: &mut [u8]) -> io::Result<usize> {
-        let outcome = self.source.read(buf);
+        let outcome = self.opened.read(buf);
         match &outcome {
             Ok(got) => {
                 self.seen.take(&buf[..*got]);
-                self.progress.read(self.seen.octets);
+                self.show();
             }
             Err(failure) => self.seen.failure = Some(same_error(failure)),
         }

@@ -7,13 +7,13 @@ mod progress;
 mod shown;
 
 use clap::error::ErrorKind;
-use inputs::{Remembering, Seen};
+use inputs::{Opened, Remembering, Seen};
 use packed::{Packed, packed_as};
 use progress::{Progress, Wiping};
 use rtps_tool::{
-    BesideFault, Captures, Choice, Ending, Form, Inputs, Options, RecFault, RunFault, WordFault,
-    is_pcapng, link_type_numbered, read_words, run_choice, status, unread_link_type, write_fault,
-    write_other_fault,
+    BesideFault, Captures, Choice, Ending, Form, Inputs, Options, RecFault, Rereading, RunFault,
+    WordFault, is_pcapng, link_type_numbered, read_words, run_choice, run_passes, status,
+    unread_link_type, write_fault, write_other_fault,
 };
 use shown::{Name, shown_words};
 use std::alloc::AllocError;
@@ -168,19 +168,55 @@ fn refuse_words(rt: &HostRuntime, fault: &WordFault) -> u8 {
 
 /// Runs what was chosen on its inputs. If one cannot be opened or read, or is refused, prints its name and the reason.
 fn run_on_inputs(rt: &HostRuntime, choice: &Choice) -> Result<Ending, BesideFault> {
-    let mut progress = Progress::new(rt);
+    let mut progress = Progress::new(rt, passes_of(choice));
+    let file = Opened::open(rt, choice.file());
+    let other = Opened::open(rt, choice.arrived());
     let mut inputs = Inputs {
-        file: Remembering::open(rt, choice.file(), progress),
-        other: Remembering::open(rt, choice.arrived(), progress),
+        file: Remembering::new(&file, progress),
+        other: Remembering::new(&other, progress),
     };
     let mut output = Wiping::new(rt.stdout(), progress);
-    let outcome = run_choice(rt.alloc(), choice, &mut inputs, &mut output, &mut progress);
+    let outcome = run_chosen(rt, choice, &mut inputs, &mut output, &mut progress);
     output.wipe();
     tell_of_inputs(rt, choice, &inputs, &outcome);
     if outcome.is_ok() {
         tell_ignored(rt, choice, progress.ignored());
     }
     outcome
+}
+
+/// Runs what was chosen: by passes over FILE, where that may be.
+fn run_chosen<'a, W: Write>(
+    rt: &HostRuntime,
+    choice: &Choice,
+    inputs: &mut Inputs<Remembering<'a>, Remembering<'a>>,
+    output: &mut W,
+    progress: &mut Progress<'_>,
+) -> Result<Ending, BesideFault> {
+    let Some(options) = by_passes(choice, &inputs.file) else {
+        return run_choice(rt.alloc(), choice, inputs, output, progress);
+    };
+    let mut input = Rereading {
+        source: inputs.file.opened(),
+        reader: &mut inputs.file,
+    };
+    Ok(run_passes(rt.alloc(), &options, &mut input, output, progress)?)
+}
+
+/// How many passes are made over FILE at most, if it is a file.
+fn passes_of(choice: &Choice) -> u8 {
+    match choice {
+        Choice::Audit { .. } => 3,
+        _ => 1,
+    }
+}
+
+/// What a run prints that may go by passes over FILE: a file that is listed or audited. None for other runs.
+fn by_passes<'a>(choice: &'a Choice, file: &Remembering<'_>) -> Option<Options<'a>> {
+    match choice {
+        Choice::List { .. } | Choice::Audit { .. } if file.is_file() => choice.options(),
+        _ => None,
+    }
 }
 
 /// On a terminal, says that `--any` may read more, if it was not given and frames were ignored.

@@ -24,13 +24,15 @@ pub struct Progress<'a> {
     begin: Option<Instant>,
     // After how many milliseconds progress is shown next.
     next: u128,
+    // How many passes are made over a file at most.
+    passes: u8,
     // How many frames of a capture were ignored.
     ignored: u64,
 }
 
 impl<'a> Progress<'a> {
-    /// For a run that begins now.
-    pub fn new(rt: &'a HostRuntime) -> Progress<'a> {
+    /// For a run that begins now, with so many passes over a file at most.
+    pub fn new(rt: &'a HostRuntime, passes: u8) -> Progress<'a> {
         let is_terminal = rt.stderr().is_terminal();
         let begin = if is_terminal && clears_lines(rt) {
             Instant::now(rt).ok()
@@ -42,6 +44,7 @@ impl<'a> Progress<'a> {
             is_terminal,
             begin,
             next: SILENCE,
+            passes,
             ignored: 0,
         }
     }
@@ -71,6 +74,19 @@ impl<'a> Progress<'a> {
                 self.rt.stderr(),
                 "{WIPE}rtps-audit: reading, {} MiB",
                 octets / 1_048_576
+            );
+        }
+    }
+
+    /// Shows how far a pass over a file has come that has so many octets.
+    pub fn pass(&mut self, pass: u8, octets: u64, size: u64) {
+        if self.is_due() {
+            let percent = octets.saturating_mul(100) / size.max(1);
+            let _ = write!(
+                self.rt.stderr(),
+                "{WIPE}rtps-audit: pass {pass} of {}, {} %",
+                self.passes,
+                percent.min(100)
             );
         }
     }

@@ -5,8 +5,8 @@
 pub mod laws;
 mod text;
 
-pub use text::audit_text::{audit_text, json_text};
-pub use text::list_text::list_text;
+pub use text::audit_text::{audit_text, json_text, report_text};
+pub use text::list_text::{directory_text, list_text};
 pub use text::sample_text;
 pub use text::show_text::show_text;
 pub use text::why_text::why_text;

@@ -30,6 +30,7 @@ use Rattle.rtps_tool.specs.Runs as runs
 use Rattle.rtps_tool.specs.declared.faults.RecFault.{RecFault}
 use Rattle.rtps_tool.specs.declared.faults.RunFault.{RunFault}
 use Rattle.rtps_tool.specs.declared.form.capture_blocks.Stop.{Stop}
+use Rattle.rtps_tool.specs.declared.form.whole_capture.WholeCapture.{WholeCapture}
 use Rattle.rtps_tool.specs.declared.runs.Limits.{Limits}
 use Rattle.rtps_tool.proofs.ReadingLemmas.{FailsReading-text}
 use Rattle.rtps_tool.proofs.UnfinishedLemmas.{begins_capture-append, recording_of-capture, recording_of-past}
@@ -186,10 +187,10 @@ came_whole limits captures a b c old new datagrams so on =
     }
 
 -- a fault was told
-pub came_fault : (limits : Limits) (captures : Captures) (a b c : Option (List ℕ)) (old new : CaptureReader) (datagrams : List course.DatagramValue) (collected : collected_spec.CollectedValue) (fault : ReadFault)
-    → blocks.CameSo limits captures a b old datagrams → advancing.IfTold (Err fault) (advancing.Advances b c old new (Err fault)) → blocks.Collects limits captures a c new collected (Err fault)
-came_fault limits captures a b c old new datagrams collected ReadFault.Input so on = tt
-came_fault limits captures a b c old new datagrams collected (ReadFault.Capture fault) so on = by fault on
+pub came_fault : (limits : Limits) (captures : Captures) (a b c : Option (List ℕ)) (old new : CaptureReader) (datagrams : List course.DatagramValue) (fault : ReadFault)
+    → blocks.CameSo limits captures a b old datagrams → advancing.IfTold (Err fault) (advancing.Advances b c old new (Err fault)) → blocks.FailsTaking limits captures a c new fault
+came_fault limits captures a b c old new datagrams ReadFault.Input so on = tt
+came_fault limits captures a b c old new datagrams (ReadFault.Capture fault) so on = by fault on
   where
     stop : (is : CaptureFault) → advancing.Advances b c old new (Err (ReadFault.Capture is))
         → blocks.StopsAt limits captures a c (record { read = new.frames.held.read; ended = new.frames.held.ended; fault = is })
@@ -204,7 +205,7 @@ came_fault limits captures a b c old new datagrams collected (ReadFault.Capture 
           ∙ ap (λ (c : course.Course). c.end) (on.tells later may);
     }
 
-    by : (is : CaptureFault) → advancing.IfTold (Err (ReadFault.Capture is)) (advancing.Advances b c old new (Err (ReadFault.Capture is))) → blocks.Collects limits captures a c new collected (Err (ReadFault.Capture is))
+    by : (is : CaptureFault) → advancing.IfTold (Err (ReadFault.Capture is)) (advancing.Advances b c old new (Err (ReadFault.Capture is))) → blocks.FailsTaking limits captures a c new (ReadFault.Capture is)
     by CaptureFault.BadCapture on = stop CaptureFault.BadCapture on
     by (CaptureFault.Damaged frame) on = stop (CaptureFault.Damaged frame) on
     by (CaptureFault.CutCapture frame) on = stop (CaptureFault.CutCapture frame) on
@@ -212,12 +213,12 @@ came_fault limits captures a b c old new datagrams collected (ReadFault.Capture 
     by CaptureFault.Memory on = tt
 
 -- a fault that says something of the capture
-pub stops_told : (limits : Limits) (captures : Captures) (before now : Option (List ℕ)) (reader : CaptureReader) (collected : collected_spec.CollectedValue) (fault : CaptureFault) (read : ℕ) (ended : Bool)
-    → blocks.is_memory fault ≡ false → read ≡ reader.frames.held.read → ended ≡ reader.frames.held.ended → blocks.Collects limits captures before now reader collected (Err (ReadFault.Capture fault))
+pub stops_told : (limits : Limits) (captures : Captures) (before now : Option (List ℕ)) (reader : CaptureReader) (fault : CaptureFault) (read : ℕ) (ended : Bool)
+    → blocks.is_memory fault ≡ false → read ≡ reader.frames.held.read → ended ≡ reader.frames.held.ended → blocks.FailsTaking limits captures before now reader (ReadFault.Capture fault)
     → blocks.StopsAt limits captures before now (record { read = read; ended = ended; fault = fault })
-stops_told limits captures before now reader collected fault read ended other many last stops = rw (many, last) (by fault other stops)
+stops_told limits captures before now reader fault read ended other many last stops = rw (many, last) (by fault other stops)
   where
-    by : (is : CaptureFault) → blocks.is_memory is ≡ false → blocks.Collects limits captures before now reader collected (Err (ReadFault.Capture is))
+    by : (is : CaptureFault) → blocks.is_memory is ≡ false → blocks.FailsTaking limits captures before now reader (ReadFault.Capture is)
         → blocks.StopsAt limits captures before now (record { read = reader.frames.held.read; ended = reader.frames.held.ended; fault = is })
     by CaptureFault.BadCapture other stops = stops
     by (CaptureFault.Damaged frame) other stops = stops
@@ -227,14 +228,14 @@ stops_told limits captures before now reader collected fault read ended other ma
 
 -- ---- what a run tells of it
 
-pub whole_reads : agreement.CourseIsTold → (limits : Limits) (captures : Captures) (before now : Option (List ℕ)) (reader : CaptureReader) (datagrams : List course.DatagramValue) (recording : recording.RecordingValue)
-    → blocks.IsWhole limits captures before now reader datagrams → reader.frames.held.read ≤ limits.octets
-    → recording ≡ recording_capture.recording_collected captures (collected_spec.collected_of datagrams) (advancing.summary_of reader) → runs.ReadsRecording limits captures before now recording
-whole_reads law limits captures before now reader datagrams recording whole few is = record {
-  text = whole.text;
-  taken = whole.began.taken;
-  whole = whole.at_end;
-  is_read = recording_of-capture limits captures whole.text (omega (arith, whole.size, few)) whole.began.form ∙ whole_told law captures limits.datagrams whole.text datagrams (advancing.summary_of reader) whole.told ∙ ap Ok (sym is);
+pub whole_reads : agreement.CourseIsTold → (limits : Limits) (captures : Captures) (before now : Option (List ℕ)) (text : List ℕ) (datagrams : List course.DatagramValue) (summary : Summary) (recording : recording.RecordingValue)
+    → blocks.Began captures before now text → IsAtEnd now → length text ≤ limits.octets → course.course_of captures limits.datagrams text ≡ record { datagrams = datagrams; end = Ok summary }
+    → recording ≡ recording_capture.recording_collected captures (collected_spec.collected_of datagrams) summary → runs.ReadsRecording limits captures before now recording
+whole_reads law limits captures before now text datagrams summary recording began end few told is = record {
+  text = text;
+  taken = began.taken;
+  whole = end;
+  is_read = recording_of-capture limits captures text few began.form ∙ whole_told law captures limits.datagrams text datagrams summary told ∙ ap Ok (sym is);
 }
 
 -- it is past the most octets that it may have
@@ -246,17 +247,27 @@ past_fails limits captures before now text taken past = record {
   readable = λ same. cc;
 }
 
-pub collected_past : (limits : Limits) (captures : Captures) (before now : Option (List ℕ)) (reader : CaptureReader) (datagrams : List course.DatagramValue) → limits.octets < reader.frames.held.read
+pub taken_past : (limits : Limits) (captures : Captures) (before now : Option (List ℕ)) (reader : CaptureReader) (datagrams : List course.DatagramValue) → limits.octets < reader.frames.held.read
     → ((limits.octets < reader.frames.held.read) × blocks.CameSo limits captures before now reader datagrams) ⊎ blocks.IsWhole limits captures before now reader datagrams
     → runs.ReadsFault limits captures before now RecFault.TooMany
-collected_past limits captures before now reader datagrams past (inl (_, so)) = past_fails limits captures before now so.text so.began.taken (omega (arith, so.size, past))
-collected_past limits captures before now reader datagrams past (inr whole) = past_fails limits captures before now whole.text whole.began.taken (omega (arith, whole.size, past))
+taken_past limits captures before now reader datagrams past (inl (_, so)) = past_fails limits captures before now so.text so.began.taken (omega (arith, so.size, past))
+taken_past limits captures before now reader datagrams past (inr whole) = past_fails limits captures before now whole.text whole.began.taken (omega (arith, whole.size, past))
 
-pub collected_whole : (limits : Limits) (captures : Captures) (before now : Option (List ℕ)) (reader : CaptureReader) (datagrams : List course.DatagramValue) → reader.frames.held.read ≤ limits.octets
-    → ((limits.octets < reader.frames.held.read) × blocks.CameSo limits captures before now reader datagrams) ⊎ blocks.IsWhole limits captures before now reader datagrams
-    → blocks.IsWhole limits captures before now reader datagrams
-collected_whole limits captures before now reader datagrams few (inl (past, so)) = absurd (omega (arith, past, few))
-collected_whole limits captures before now reader datagrams few (inr whole) = whole
+-- all of it was taken
+pub takes_all : (limits : Limits) (captures : Captures) (before now : Option (List ℕ)) (reader : CaptureReader) (Took : List course.DatagramValue → Type 0) (whole : WholeCapture)
+    → whole.summary ≡ advancing.summary_of reader → whole.octets ≡ reader.frames.held.read → reader.frames.held.read ≤ limits.octets
+    → blocks.Takes limits captures before now reader Took → blocks.TakesAll limits captures before now Took whole
+takes_all limits captures before now reader Took whole summary octets within (datagrams, took, inl (past, so)) = absurd (omega (arith, past, within))
+takes_all limits captures before now reader Took whole summary octets within (datagrams, took, inr is) = record {
+  text = is.text;
+  datagrams = datagrams;
+  took = took;
+  began = is.began;
+  at_end = is.at_end;
+  size = octets ∙ is.size;
+  within = omega (arith, is.size, within);
+  told = is.told ∙ ap (λ (s : Summary). let end : course.Course = record { datagrams = datagrams; end = Ok s } in end) (sym summary);
+}
 
 -- it has a fault, and the rest was read
 pub stop_past : (limits : Limits) (captures : Captures) (a b c : Option (List ℕ)) (stop : Stop) (total : ℕ) → blocks.StopsAt limits captures a b stop → blocks.ReadsRest limits.octets b c stop total → limits.octets < total
@@ -298,6 +309,7 @@ rest_fails limits captures a b RunFault.Input is = tt
 rest_fails limits captures a b RunFault.Memory is = tt
 rest_fails limits captures a b (RunFault.Recording fault) is = absurd is
 rest_fails limits captures a b (RunFault.Output written) is = absurd is
+rest_fails limits captures a b RunFault.Changed is = absurd is
 
 -- ---- a capture in memory
 

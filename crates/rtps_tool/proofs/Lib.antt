@@ -1,4 +1,5 @@
 pub mod BlocksLemmas
+pub mod PassesLemmas
 pub mod PiecesLemmas
 pub mod LimitsLemmas
 pub mod LinesLemmas

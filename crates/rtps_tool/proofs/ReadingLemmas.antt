@@ -5,10 +5,12 @@ use Rattle.std.proofs.Math.Seq.{take-append-add}
 use Rattle.std.proofs.KnownBytes.{Consumes-trans}
 use Rattle.std.specs.Io.KnownBytes.{Consumes, IsAtEnd}
 use borrow.Rule.Slice.PartMut.{put_mid, post_of}
+use Rattle.rtps_capture.specs.Course as course
 use Rattle.rtps_report.specs.Recording as recording
 use Rattle.rtps_tool.specs.Outcomes as outcomes
 use Rattle.rtps_tool.specs.Forms as forms
 use Rattle.rtps_tool.specs.Lines as lines
+use Rattle.rtps_tool.specs.Passes as passes
 use Rattle.rtps_tool.specs.RecordingText as recording_text
 use Rattle.rtps_tool.specs.RunFaults as run_faults
 use Rattle.rtps_tool.specs.Runs as runs
@@ -29,16 +31,16 @@ pub record HasRead (limits : Limits) (captures : Captures) (old new : Option (Li
   pub stands : (later : List ℕ) → told later ≡ recording_text.recording_of_lines limits.datagrams 1 0 (lines.lines_of (text ++ later))
 
 -- no line was read yet
-pub HasRead-start : (limits : Limits) (captures : Captures) (a b : Option (List ℕ)) (done : List (List ℕ)) (lines start : ℕ) (held : List ℕ) → done ≡ [] → lines ≡ 0
+pub HasRead-start : (limits : Limits) (captures : Captures) (a b : Option (List ℕ)) (lines start : ℕ) (held : List ℕ) → lines ≡ 0
     → Consumes a b (take start held) → start ≤ length held → 4 ≤ start → forms.begins_capture captures (take start held) ≡ false
-    → HasRead limits captures a b start (λ later. unfinished.recording_behind limits.datagrams done lines (take start held ++ later))
-HasRead-start limits captures a b done lines start held none first taken within begun plain = record {
+    → HasRead limits captures a b start (λ later. unfinished.recording_behind limits.datagrams [] lines (take start held ++ later))
+HasRead-start limits captures a b lines start held first taken within begun plain = record {
   text = take start held;
   taken = taken;
   size = length-take-le start held within;
   begun = omega (arith, length-take-le start held within);
   plain = plain;
-  stands = λ later. rw (none, first) (recording_behind-start limits.datagrams (take start held ++ later));
+  stands = λ later. rw first (recording_behind-start limits.datagrams (take start held ++ later));
 }
 
 -- a piece more was read
@@ -102,20 +104,32 @@ recording_of-read limits captures a b total told h within =
     ap recording_text.without_frames (h.stands [] ∙ ap (λ (text : List ℕ). recording_text.recording_of_lines limits.datagrams 1 0 (lines.lines_of text)) (append-nil h.text))
     ∙ sym (recording_of-text limits captures h.text (omega (arith, h.size)) h.plain)
 
-pub ReadsRecording-read : (limits : Limits) (captures : Captures) (a b : Option (List ℕ)) (total : ℕ) (told : List ℕ → Result (List (List ℕ)) RecFault) (datagrams : List (List ℕ))
-    → HasRead limits captures a b total told → IsAtEnd b → total ≤ limits.octets → told [] ≡ Ok datagrams → runs.ReadsRecording limits captures a b (recording_text.unframed datagrams)
-ReadsRecording-read limits captures a b total told datagrams h end within fine = record {
+-- the datagrams of the whole text were taken
+pub TakesText-last : (limits : Limits) (captures : Captures) (a b : Option (List ℕ)) (total count octets : ℕ) (done : List (List ℕ)) (left : List ℕ) (all : List (List ℕ)) (Took : List course.DatagramValue → Type 0)
+    → HasRead limits captures a b total (λ later. unfinished.recording_behind limits.datagrams done count (left ++ later)) → IsAtEnd b → total ≤ limits.octets → octets ≡ total
+    → Took (recording_text.untimed all) → unfinished.recording_behind limits.datagrams done count left ≡ Ok all → unfinished.TakesText limits captures a b Took octets
+TakesText-last limits captures a b total count octets done left all Took h end within size took fine = record {
   text = h.text;
+  datagrams = all;
+  took = took;
   taken = h.taken;
-  whole = end;
-  is_read = sym (recording_of-read limits captures a b total told h within) ∙ ap recording_text.without_frames fine;
+  plain = h.plain;
+  at_end = end;
+  size = omega (arith, h.size);
+  within = omega (arith, h.size);
+  told = sym (h.stands [] ∙ ap (λ (text : List ℕ). recording_text.recording_of_lines limits.datagrams 1 0 (lines.lines_of text)) (append-nil h.text))
+      ∙ ap (unfinished.recording_behind limits.datagrams done count) (append-nil left) ∙ fine;
 }
 
-pub ReadsRecording-last : (limits : Limits) (captures : Captures) (a b : Option (List ℕ)) (total lines : ℕ) (done : List (List ℕ)) (left : List ℕ) (datagrams : List (List ℕ))
-    → HasRead limits captures a b total (λ later. unfinished.recording_behind limits.datagrams done lines (left ++ later)) → IsAtEnd b → total ≤ limits.octets → unfinished.recording_behind limits.datagrams done lines left ≡ Ok datagrams
-    → runs.ReadsRecording limits captures a b (recording_text.unframed datagrams)
-ReadsRecording-last limits captures a b total lines done left datagrams h end within fine =
-    ReadsRecording-read limits captures a b total (λ later. unfinished.recording_behind limits.datagrams done lines (left ++ later)) datagrams h end within (ap (unfinished.recording_behind limits.datagrams done lines) (append-nil left) ∙ fine)
+-- these are its recording
+pub ReadsRecording-text : (limits : Limits) (captures : Captures) (a b : Option (List ℕ)) (Took : List course.DatagramValue → Type 0) (octets : ℕ) (found : List (List ℕ))
+    → (h : unfinished.TakesText limits captures a b Took octets) → found ≡ h.datagrams → runs.ReadsRecording limits captures a b (recording_text.unframed found)
+ReadsRecording-text limits captures a b Took octets found h same = record {
+  text = h.text;
+  taken = h.taken;
+  whole = h.at_end;
+  is_read = recording_of-text limits captures h.text h.within h.plain ∙ ap recording_text.without_frames (h.told ∙ ap Ok (sym same));
+}
 
 -- what was read has this fault
 pub FailsReading-text : (limits : Limits) (captures : Captures) (a b : Option (List ℕ)) (text : List ℕ) (fault : RecFault) → runs.Reads limits a b text → outcomes.IsFaultOf (forms.recording_within limits captures text) fault → runs.FailsReading limits captures a b (run_faults.run_fault_of fault)
@@ -126,6 +140,16 @@ FailsReading-text limits captures a b text RecFault.Memory reads faulty = tt
 FailsReading-text limits captures a b text RecFault.BadCapture reads faulty = record { text = text; reads = reads; faulty = faulty; readable = λ same. cc }
 FailsReading-text limits captures a b text (RecFault.CutCapture frame) reads faulty = record { text = text; reads = reads; faulty = faulty; readable = λ same. cc }
 FailsReading-text limits captures a b text (RecFault.Damaged frame) reads faulty = record { text = text; reads = reads; faulty = faulty; readable = λ same. cc }
+
+-- it is no fault of writing
+pub run_fault_is_read : (fault : RecFault) → passes.IsReadFault (run_faults.run_fault_of fault)
+run_fault_is_read (RecFault.BadHex line) = tt
+run_fault_is_read (RecFault.TooLong line) = tt
+run_fault_is_read RecFault.TooMany = tt
+run_fault_is_read RecFault.Memory = tt
+run_fault_is_read RecFault.BadCapture = tt
+run_fault_is_read (RecFault.CutCapture frame) = tt
+run_fault_is_read (RecFault.Damaged frame) = tt
 
 pub FailsReading-end : (limits : Limits) (captures : Captures) (a b : Option (List ℕ)) (total : ℕ) (told : List ℕ → Result (List (List ℕ)) RecFault) (fault : RecFault)
     → HasRead limits captures a b total told → IsAtEnd b → total ≤ limits.octets → outcomes.IsFaultOf (told []) fault → runs.FailsReading limits captures a b (run_faults.run_fault_of fault)

@@ -15,12 +15,11 @@ use Rattle.rtps_tool.specs.Runs as runs
 use Rattle.clap.specs.Words.{Text}
 use Rattle.rtps_tool.specs.declared.faults.BesideFault.{BesideFault}
 use Rattle.rtps_capture.specs.declared.captures.Captures.{Captures}
-use Rattle.rtps_tool.specs.declared.faults.RunFault.{RunFault}
 use Rattle.rtps_tool.specs.declared.runs.Limits.{Limits}
 use Rattle.rtps_tool.proofs.LimitsLemmas.{stays_within}
 
 -- where nothing is left, all was read
-all_read : (input : List ℕ) (left : Option (List ℕ)) (text : List ℕ) → Consumes (Some input) left text → IsAtEnd left → text ≡ input
+pub all_read : (input : List ℕ) (left : Option (List ℕ)) (text : List ℕ) → Consumes (Some input) left text → IsAtEnd left → text ≡ input
 all_read input None text taken end = absurd taken
 all_read input (Some rest) text taken end = sym (taken ∙ ap (λ xs. text ++ xs) end ∙ append-nil text)
 

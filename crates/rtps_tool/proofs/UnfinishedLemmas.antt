@@ -1,10 +1,11 @@
 -- Facts on a text of which a part was read.
-use Rattle.std.proofs.Common.{◌≡◌, ◌≢◌, ℕ, suc, ◌+◌, ◌-◌, ◌<◌, ◌≤◌, true, false, Bool, List, [], ◌∷◌, ◌++◌, length, take, drop, get_or, Option, None, Some, Ok, Err, refl, sym, ap, ap₂, ◌∙◌, subst, arith}
+use Rattle.std.proofs.Common.{◌≡◌, ◌≢◌, ℕ, suc, ◌+◌, ◌-◌, ◌<◌, ◌≤◌, true, false, Bool, List, [], ◌∷◌, ◌++◌, length, take, drop, get_or, None, Some, Ok, Err, refl, sym, ap, ap₂, ◌∙◌, subst, arith}
 use Rattle.std.specs.Prelude.{if◌then◌else◌, ◌||◌, is_some, nat_le, nat_lt, MatchResult, Result}
 use Rattle.std.specs.List.{position}
 use Rattle.std.specs.Str.Lines.{strip_carriage_return}
 use Rattle.std.proofs.lemmas.List.{append-nil, length-append, length-take, get_or-take, drop-drop}
 use Rattle.std.proofs.lemmas.Bool.Decides.{nat_tests}
+use Rattle.rtps_capture.specs.Course as course
 use Rattle.rtps_capture.specs.Opening as opening
 use Rattle.rtps_capture.proofs.Offered.{is_pcapng-append, order_of-append}
 use Rattle.rtps_tool.specs.Outcomes as outcomes
@@ -12,9 +13,11 @@ use Rattle.rtps_tool.specs.Forms as forms
 use Rattle.rtps_tool.specs.Lines as lines_spec
 use Rattle.rtps_tool.specs.RecordingCapture as recording_capture
 use Rattle.rtps_tool.specs.RecordingText as recording_text
+use Rattle.rtps_tool.specs.Sums as sums
 use Rattle.rtps_tool.specs.Unfinished as unfinished
 use Rattle.rtps_capture.specs.declared.captures.Captures.{Captures}
 use Rattle.rtps_tool.specs.declared.faults.RecFault.{RecFault}
+use Rattle.rtps_tool.specs.declared.form.line_reader.LineReader.{LineReader}
 use Rattle.rtps_tool.specs.declared.runs.Limits.{Limits}
 use Rattle.rtps_tool.proofs.LinesLemmas.{lines_of-append, lines_of-unfinished, first_part, later_parts}
 use Rattle.rtps_tool.proofs.RecordingLemmas.{with_front-ok, with_front-all, with_front-none, IsFaultOf-with_front, recording_of_lines-skipped, recording_of_lines-faulty}
@@ -30,13 +33,13 @@ unfolding unfinished.recording_behind
 recording_behind-end most done lines left none = with_front-all most _ _ done left none
 
 -- a line with no fault was read
-pub recording_behind-line : (most : ℕ) (done found new : List (List ℕ)) (lines : ℕ) (line text left : List ℕ) → lines_spec.lines_of text ≡ line ∷ lines_spec.lines_of left
-    → recording_text.recording_of_lines most (lines + 1) (length done) (line ∷ []) ≡ Ok found → new ≡ done ++ found
-    → unfinished.recording_behind most new (lines + 1) left ≡ unfinished.recording_behind most done lines text
+pub recording_behind-line : (most : ℕ) (done found : List (List ℕ)) (lines next : ℕ) (line text left : List ℕ) → lines_spec.lines_of text ≡ line ∷ lines_spec.lines_of left
+    → recording_text.recording_of_lines most (lines + 1) (length done) (line ∷ []) ≡ Ok found → next ≡ lines + 1
+    → unfinished.recording_behind most (done ++ found) next left ≡ unfinished.recording_behind most done lines text
 unfolding unfinished.recording_behind
-recording_behind-line most done found new lines line text left cut fine joined =
-    with_front-ok most (lines + 1) done found new line (lines_spec.lines_of left) fine joined
-    ∙ ap (λ (all : List (List ℕ)). unfinished.with_front done (recording_text.recording_of_lines most (lines + 1) (length done) all)) (sym cut)
+recording_behind-line most done found lines next line text left cut fine one =
+    rw one (with_front-ok most (lines + 1) done found (done ++ found) line (lines_spec.lines_of left) fine refl
+    ∙ ap (λ (all : List (List ℕ)). unfinished.with_front done (recording_text.recording_of_lines most (lines + 1) (length done) all)) (sym cut))
 
 -- a line with a fault was read
 pub recording_behind-fault : (most : ℕ) (done : List (List ℕ)) (lines : ℕ) (line text left : List ℕ) (fault : RecFault) → lines_spec.lines_of text ≡ line ∷ lines_spec.lines_of left
@@ -47,16 +50,32 @@ recording_behind-fault most done lines line text left fault cut faulty =
     (IsFaultOf-with_front most (lines + 1) done line (lines_spec.lines_of left) fault faulty)
 
 -- the last line was read, which no end follows
-pub recording_behind-last : (most : ℕ) (done new : List (List ℕ)) (lines : ℕ) (line text : List ℕ) (read : Result Unit RecFault) → lines_spec.lines_of text ≡ strip_carriage_return text ∷ []
-    → line ≡ strip_carriage_return text
+pub recording_behind-last : (most : ℕ) (done : List (List ℕ)) (old new : LineReader) (line text : List ℕ) (Told : List course.DatagramValue → Type 0) (read : Result Unit RecFault)
+    → lines_spec.lines_of text ≡ strip_carriage_return text ∷ [] → line ≡ strip_carriage_return text
     → MatchResult read
-    (λ _. (found : List (List ℕ)) × (recording_text.recording_of_lines most (lines + 1) (length done) (line ∷ []) ≡ Ok found) × (new ≡ done ++ found))
-    (outcomes.IsFaultOf (recording_text.recording_of_lines most (lines + 1) (length done) (line ∷ [])))
-    → MatchResult read (λ _. unfinished.recording_behind most done lines text ≡ Ok new) (outcomes.IsFaultOf (unfinished.recording_behind most done lines text))
-recording_behind-last most done new lines line text (Ok u) cut is fine =
-    sym (recording_behind-line most done fine.0 new lines line text [] (cut ∙ ap (λ (first : List ℕ). first ∷ []) (sym is)) fine.1 fine.2) ∙ recording_behind-end most new (lines + 1) [] refl
-recording_behind-last most done new lines line text (Err fault) cut is faulty =
-    recording_behind-fault most done lines line text [] fault (cut ∙ ap (λ (first : List ℕ). first ∷ []) (sym is)) faulty
+    (λ _. (found : List (List ℕ)) × (recording_text.recording_of_lines most (old.lines + 1) (length done) (line ∷ []) ≡ Ok found) × unfinished.HasTold Told new (done ++ found))
+    (outcomes.IsFaultOf (recording_text.recording_of_lines most (old.lines + 1) (length done) (line ∷ [])))
+    → MatchResult read (λ _. unfinished.IsReadWhole most done old text Told) (outcomes.IsFaultOf (unfinished.recording_behind most done old.lines text))
+recording_behind-last most done old new line text Told (Ok u) cut is fine = record {
+  all = done ++ fine.0;
+  told = fine.2.told;
+  stands = sym (recording_behind-line most done fine.0 old.lines (old.lines + 1) line text [] (cut ∙ ap (λ (first : List ℕ). first ∷ []) (sym is)) fine.1 refl)
+      ∙ recording_behind-end most (done ++ fine.0) (old.lines + 1) [] refl;
+}
+recording_behind-last most done old new line text Told (Err fault) cut is faulty =
+    recording_behind-fault most done old.lines line text [] fault (cut ∙ ap (λ (first : List ℕ). first ∷ []) (sym is)) faulty
+
+-- a taker of octets alone has those of a text
+pub octets_of-untimed : (datagrams : List (List ℕ)) → sums.octets_of (recording_text.untimed datagrams) ≡ datagrams
+octets_of-untimed [] = refl
+octets_of-untimed (datagram ∷ datagrams) = ap (λ (rest : List (List ℕ)). datagram ∷ rest) (octets_of-untimed datagrams)
+
+-- a taker is told one datagram more of a text
+pub untimed-more : (datagrams : List (List ℕ)) (datagram : List ℕ) → recording_text.untimed (datagrams ++ datagram ∷ []) ≡ recording_text.untimed datagrams ++ (record { octets = datagram; time = None; frame = 0 }) ∷ []
+untimed-more [] datagram = refl
+untimed-more (first ∷ datagrams) datagram =
+    let one : course.DatagramValue = record { octets = first; time = None; frame = 0 } in
+    ap (λ (rest : List course.DatagramValue). one ∷ rest) (untimed-more datagrams datagram)
 
 -- a line without the carriage return at its end begins as before, and is shorter by one octet at most
 shorter_by_one : (line : List ℕ) (b : Bool) → length line ≤ suc (length (if b then take (length line - 1) line else line))
@@ -182,9 +201,9 @@ begins_capture-short Captures.Any input few =
     rw (short, little) refl
 
 -- a text of which nothing was read
-pub recording_behind-whole : (most : ℕ) (done : List (List ℕ)) (lines : ℕ) (text : List ℕ) → done ≡ [] → lines ≡ 0
-    → unfinished.recording_behind most done lines (text ++ []) ≡ recording_text.recording_of_lines most 1 0 (lines_spec.lines_of text)
-recording_behind-whole most done lines text none first = rw (append-nil text, none, first) (recording_behind-start most text)
+pub recording_behind-whole : (most : ℕ) (lines : ℕ) (text : List ℕ) → lines ≡ 0
+    → unfinished.recording_behind most [] lines (text ++ []) ≡ recording_text.recording_of_lines most 1 0 (lines_spec.lines_of text)
+recording_behind-whole most lines text first = rw (append-nil text, first) (recording_behind-start most text)
 
 -- a line that ends within what is left of a text, whatever comes later
 pub line_within : (text later line : List ℕ) (from end : ℕ) → position lines_spec.is_line_feed (drop from text) ≡ Some end → line ≡ strip_carriage_return (take end (drop from text))
@@ -192,3 +211,13 @@ pub line_within : (text later line : List ℕ) (from end : ℕ) → position lin
 line_within text later line from end found is =
     rw is (lines_of-append (drop from text) later end found
     ∙ ap (λ (left : List ℕ). strip_carriage_return (take end (drop from text)) ∷ lines_spec.lines_of (left ++ later)) (drop-drop (end + 1) from text))
+
+-- all lines of a text were read
+pub all_lines : (most : ℕ) (done : List (List ℕ)) (old : LineReader) (text whole : List ℕ) (Told : List course.DatagramValue → Type 0) (read : Result Unit RecFault)
+    → unfinished.recording_behind most done old.lines text ≡ recording_text.recording_of_lines most 1 0 (lines_spec.lines_of whole)
+    → MatchResult read (λ _. unfinished.IsReadWhole most done old text Told) (outcomes.IsFaultOf (unfinished.recording_behind most done old.lines text))
+    → MatchResult read
+    (λ _. (all : List (List ℕ)) × (recording_text.recording_of_lines most 1 0 (lines_spec.lines_of whole) ≡ Ok all) × Told (recording_text.untimed all))
+    (outcomes.IsFaultOf (recording_text.recording_of_lines most 1 0 (lines_spec.lines_of whole)))
+all_lines most done old text whole Told (Ok u) same is = (is.all, sym same ∙ is.stands, is.told)
+all_lines most done old text whole Told (Err fault) same faulty = subst (λ (defined : Result (List (List ℕ)) RecFault). outcomes.IsFaultOf defined fault) same faulty

@@ -1,18 +1,17 @@
 -- A capture of which a part was read. own: a recording may come in blocks, and stands for the same however it is cut into them.
-use Rattle.std.specs.Prelude.{ℕ, ◌+◌, ◌≡◌, ◌<◌, ◌≤◌, ◌⊎◌, Bool, false, true, List, [], ◌++◌, length, Option, Result, Ok, Err}
+use Rattle.std.specs.Prelude.{ℕ, ◌+◌, ◌≡◌, ◌<◌, ◌≤◌, ◌⊎◌, Bool, false, true, List, [], ◌++◌, length, Option, Ok, Err}
 use Rattle.std.specs.Io.KnownBytes.{Consumes, IsAtEnd}
 use Rattle.rtps_capture.specs.Advancing as advancing
 use Rattle.rtps_capture.specs.Course as course
 use Rattle.rtps_capture.specs.Held as held
 use Rattle.rtps_capture.specs.declared.capture.CaptureFault.{CaptureFault}
 use Rattle.rtps_capture.specs.declared.capture_reader.CaptureReader.{CaptureReader}
-use Rattle.rtps_capture.specs.declared.capture_reader.Summary.{Summary}
 use Rattle.rtps_capture.specs.declared.captures.Captures.{Captures}
 use Rattle.rtps_capture.specs.declared.read_fault.ReadFault.{ReadFault}
-use Rattle.rtps_tool.specs.Collected as collected_spec
 use Rattle.rtps_tool.specs.Forms as forms
 use Rattle.rtps_tool.specs.declared.faults.RunFault.{RunFault}
 use Rattle.rtps_tool.specs.declared.form.capture_blocks.Stop.{Stop}
+use Rattle.rtps_tool.specs.declared.form.whole_capture.WholeCapture.{WholeCapture}
 use Rattle.rtps_tool.specs.declared.runs.Limits.{Limits}
 
 -- These octets were read, which begin a capture: what a reader had in front, and what it has now.
@@ -47,15 +46,29 @@ pub record StopsAt (limits : Limits) (captures : Captures) (before now : Option 
   pub at_end : stop.ended ≡ true → IsAtEnd now
   pub faulty : (later : List ℕ) → (stop.ended ≡ true → later ≡ []) → (course.course_of captures limits.datagrams (text ++ later)).end ≡ Err stop.fault
 
--- the datagrams of a capture were collected, all of them or past the most octets that it may have, or it has a fault
-abbrev pub Collects : Limits → Captures → (before now : Option (List ℕ)) → CaptureReader → collected_spec.CollectedValue → Result (Unit {0}) ReadFault → Type 0
-Collects limits captures before now reader collected (Ok done) =
-    (datagrams : List course.DatagramValue) × (collected ≡ collected_spec.collected_of datagrams)
+-- the datagrams of a capture were taken, all of them or past the most octets that it may have; `Took` says that these were
+abbrev pub Takes : Limits → Captures → (before now : Option (List ℕ)) → CaptureReader → (List course.DatagramValue → Type 0) → Type 0
+Takes limits captures before now reader Took =
+    (datagrams : List course.DatagramValue) × Took datagrams
     × (((limits.octets < reader.frames.held.read) × CameSo limits captures before now reader datagrams) ⊎ IsWhole limits captures before now reader datagrams)
-Collects limits captures before now reader collected (Err ReadFault.Input) = Unit {0}
-Collects limits captures before now reader collected (Err (ReadFault.Capture CaptureFault.Memory)) = Unit {0}
-Collects limits captures before now reader collected (Err (ReadFault.Capture fault)) =
+
+-- or it has a fault
+abbrev pub FailsTaking : Limits → Captures → (before now : Option (List ℕ)) → CaptureReader → ReadFault → Type 0
+FailsTaking limits captures before now reader ReadFault.Input = Unit {0}
+FailsTaking limits captures before now reader (ReadFault.Capture CaptureFault.Memory) = Unit {0}
+FailsTaking limits captures before now reader (ReadFault.Capture fault) =
     StopsAt limits captures before now (record { read = reader.frames.held.read; ended = reader.frames.held.ended; fault = fault })
+
+-- All datagrams of a capture were taken, which is no longer than it may be; `Took` says that these were.
+pub record TakesAll (limits : Limits) (captures : Captures) (before now : Option (List ℕ)) (Took : List course.DatagramValue → Type 0) (whole : WholeCapture) : Type 0 where
+  pub text : List ℕ
+  pub datagrams : List course.DatagramValue
+  pub took : Took datagrams
+  pub began : Began captures before now text
+  pub at_end : IsAtEnd now
+  pub size : whole.octets ≡ length text
+  pub within : length text ≤ limits.octets
+  pub told : course.course_of captures limits.datagrams text ≡ record { datagrams = datagrams; end = Ok whole.summary }
 
 -- memory was refused, which says nothing of the capture
 abbrev pub is_memory : CaptureFault → Bool

@@ -1,6 +1,6 @@
 -- The datagrams of a capture that were collected, one behind another. own: of a capture no more is kept than its datagrams, when each
 -- came, and the number of the frame that gave it.
-use Rattle.std.specs.Prelude.{ℕ, List, [], ◌∷◌, ◌++◌, map, Option}
+use Rattle.std.specs.Prelude.{ℕ, ◌≡◌, List, [], ◌∷◌, ◌++◌, map, Option}
 use Rattle.rtps_capture.specs.Course as course
 
 -- the octets of each, its time, and its frame
@@ -24,3 +24,7 @@ with_one collected octets time frame = record {
   times = collected.times ++ time ∷ [];
   frames = collected.frames ++ frame ∷ [];
 }
+
+-- where none was collected at first, these were
+abbrev pub HasTaken : CollectedValue → List course.DatagramValue → CollectedValue → Type 0
+HasTaken start datagrams collected = start ≡ collected_of [] → collected ≡ collected_of datagrams

@@ -24,6 +24,7 @@ run_fault_text (RunFault.Recording fault) = rec_fault_text fault
 run_fault_text RunFault.Input = codes "cannot read input"
 run_fault_text (RunFault.Output written) = codes "cannot write output"
 run_fault_text RunFault.Memory = codes "out of memory"
+run_fault_text RunFault.Changed = codes "the file changed while it was read"
 
 -- from 1 on: first those of texts, and then those of captures; a damaged one is a bad one
 abbrev pub rec_fault_number : RecFault → ℕ
@@ -35,12 +36,13 @@ rec_fault_number RecFault.BadCapture = 5
 rec_fault_number (RecFault.CutCapture frame) = 6
 rec_fault_number (RecFault.Damaged frame) = 5
 
--- from 1 on, in the order in which a run can meet them, and want of memory last
+-- from 1 on: first in the order in which a run can meet them, then want of memory, and that a file changed
 abbrev pub run_fault_number : RunFault → ℕ
 run_fault_number (RunFault.Recording fault) = 1
 run_fault_number RunFault.Input = 2
 run_fault_number (RunFault.Output written) = 3
 run_fault_number RunFault.Memory = 4
+run_fault_number RunFault.Changed = 5
 
 -- the line of a fault, with LF (10)
 abbrev pub fault_line : RunFault → List ℕ

@@ -1,4 +1,6 @@
 pub mod Options
+pub mod Passes
+pub mod Sums
 pub mod Outcomes
 pub mod CaptureBlocks
 pub mod Choices

@@ -3,6 +3,7 @@
 use Rattle.std.specs.Prelude.{ℕ, ◌==◌, ◌&&◌, nat_le, nat_lt, not, Bool, if◌then◌else◌, List, [], ◌∷◌, length, slice_index, map, filter, Option, Some, None, Result, Ok, Err, is_err}
 use Rattle.std.specs.List.{enumerate_from, filter_map}
 use Rattle.hex.specs.Hex.{decode_of}
+use Rattle.rtps_capture.specs.Course as course
 use Rattle.rtps_digits.specs.Pairs as pairs
 use Rattle.rtps_evidence.specs.Times as times
 use Rattle.rtps_report.specs.Recording as recording
@@ -40,6 +41,10 @@ unless_faulty (fault ∷ later) datagrams = Err fault
 unfoldable pub recording_of_lines : (most number before : ℕ) → List (List ℕ) → Result (List (List ℕ)) RecFault
 recording_of_lines most number before lines =
     unless_faulty (line_faults most before (datagram_lines number lines)) (map (λ line. pairs.octets_of line.1) (datagram_lines number lines))
+
+-- these datagrams as a taker is told them: no frames carry them
+abbrev pub untimed : List (List ℕ) → List course.DatagramValue
+untimed datagrams = map (λ (octets : List ℕ). record { octets = octets; time = None; frame = 0 }) datagrams
 
 -- the recording of which these are the datagrams, which no frames carry: it has no times
 abbrev pub unframed : List (List ℕ) → recording.RecordingValue

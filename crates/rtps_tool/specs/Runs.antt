@@ -37,6 +37,7 @@ FailsReading limits captures old new (RunFault.Recording fault) = ReadsFault lim
 FailsReading limits captures old new RunFault.Input = Unit {0}
 FailsReading limits captures old new (RunFault.Output written) = ⊥
 FailsReading limits captures old new RunFault.Memory = Unit {0}
+FailsReading limits captures old new RunFault.Changed = ⊥
 
 -- so many octets of this text were written, and the rest was not
 abbrev pub FailsWriting : (old new : Option (List ℕ)) → List ℕ → RunFault → Type 0
@@ -44,6 +45,7 @@ FailsWriting old new text (RunFault.Recording fault) = ⊥
 FailsWriting old new text RunFault.Input = ⊥
 FailsWriting old new text (RunFault.Output written) = (written < length text) × Appends old new (take written text)
 FailsWriting old new text RunFault.Memory = ⊥
+FailsWriting old new text RunFault.Changed = ⊥
 
 -- A run that writes a text of the recording that it reads within these limits, where these captures are read, and ends as it
 -- tells; `IsPrinted` says which texts and ends those are. The reader before and after it, the writer before and after it, and what the run answers.
@@ -56,6 +58,7 @@ RunsWithin limits captures IsPrinted unread left held holds (Err (RunFault.Outpu
     (recording : recording.RecordingValue) × (text : List ℕ) × (ending : Ending) × ReadsRecording limits captures unread left recording × IsPrinted recording text ending
     × FailsWriting held holds text (RunFault.Output written)
 RunsWithin limits captures IsPrinted unread left held holds (Err RunFault.Memory) = Keeps held holds
+RunsWithin limits captures IsPrinted unread left held holds (Err RunFault.Changed) = ⊥
 
 -- within the usual limits, where classic captures are read
 abbrev pub Runs : (recording.RecordingValue → List ℕ → Ending → Type 0) → (unread left held holds : Option (List ℕ)) → Result Ending RunFault → Type 0
@@ -83,6 +86,7 @@ RunsBeside limits captures IsPrinted unread left theirs rest held holds (Err (Be
 RunsBeside limits captures IsPrinted unread left theirs rest held holds (Err (BesideFault.Run (RunFault.Output written))) =
     RunsWithOther limits captures theirs rest (λ other. RunsWithin limits captures (IsPrinted (Some other)) unread left held holds (Err (RunFault.Output written)))
 RunsBeside limits captures IsPrinted unread left theirs rest held holds (Err (BesideFault.Run RunFault.Memory)) = Keeps held holds
+RunsBeside limits captures IsPrinted unread left theirs rest held holds (Err (BesideFault.Run RunFault.Changed)) = ⊥
 RunsBeside limits captures IsPrinted unread left theirs rest held holds (Err (BesideFault.Other fault)) =
     (recording : recording.RecordingValue) × ReadsRecording limits captures unread left recording × FailsReading limits captures theirs rest fault × Keeps held holds
 

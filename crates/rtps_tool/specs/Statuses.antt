@@ -18,6 +18,7 @@ fault_status_of (RunFault.Recording (RecFault.Damaged frame)) = 2
 fault_status_of RunFault.Input = 3
 fault_status_of (RunFault.Output written) = 3
 fault_status_of RunFault.Memory = 3
+fault_status_of RunFault.Changed = 3
 
 -- the status with which a run ends; a fault of the other recording has the status that it has of FILE
 abbrev pub status_of : Result Ending BesideFault → ℕ

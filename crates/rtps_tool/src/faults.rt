@@ -126,6 +126,8 @@ pub enum RunFault {
     Output { written: u64 },
     /// There was no memory for the input, the recording or the text, or no span for a datagram ([`RecFault::Memory`]).
     Memory,
+    /// A source that is read more than once has changed meanwhile ([`crate::run_passes`]).
+    Changed,
 }
 
 impl RunFault {
@@ -138,6 +140,7 @@ impl RunFault {
             RunFault::Input => 2,
             RunFault::Output { written: _ } => 3,
             RunFault::Memory => 4,
+            RunFault::Changed => 5,
         }
     }
 }
@@ -152,6 +155,7 @@ impl fmt::Display for RunFault {
             RunFault::Input => write!(f, "cannot read input"),
             RunFault::Output { written: _ } => write!(f, "cannot write output"),
             RunFault::Memory => write!(f, "out of memory"),
+            RunFault::Changed => write!(f, "the file changed while it was read"),
         }
     }
 }
@@ -233,19 +237,19 @@ impl From<Memory> for BesideFault {
     }
 }
 
-/// The status of a fault: 2 where the recording is refused, 3 where a read, a write or a request for memory failed.
+/// The status of a fault: 2 where the recording is refused, 3 where a read, a write or a request for memory failed, or a file changed.
 fn fault_status(fault: &RunFault) -> u8
     ensures { result ≡ statuses.fault_status_of fault.now }
 {
     match fault {
         RunFault::Recording(RecFault::Memory) => 3,
         RunFault::Recording(_) => 2,
-        RunFault::Input | RunFault::Output { .. } | RunFault::Memory => 3,
+        RunFault::Input | RunFault::Output { .. } | RunFault::Memory | RunFault::Changed => 3,
     }
 }
 
 /// The status that the program ends with after a run: 0 where it is clean, 1 where it is not, 2 where a recording
-/// is refused, 3 where a read, a write or a request for memory failed.
+/// is refused, 3 where a read, a write or a request for memory failed, or a file changed.
 pub fn status(outcome: &Result<Ending, BesideFault>) -> u8
     ensures { result ≡ statuses.status_of outcome.now }
 {

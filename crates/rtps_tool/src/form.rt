@@ -5,3 +5,6 @@ pub(crate) mod collected;
 pub(crate) mod either;
 pub(crate) mod hex_lines;
 pub(crate) mod line_reader;
+pub(crate) mod taking;
+pub(crate) mod whole;
+pub(crate) mod whole_capture;

@@ -9,7 +9,9 @@ mod faults;
 mod follow;
 mod form;
 pub mod laws;
+mod passes;
 mod runs;
+mod source;
 mod streams;
 
 pub use choices::run_choice;
@@ -18,6 +20,7 @@ pub use demands::Demands;
 pub use faults::{BesideFault, RecFault, RunFault, status, write_fault, write_other_fault};
 pub use follow::Follow;
 pub use form::either::{read_recording, read_recording_within};
+pub use passes::run_passes;
 pub use rtps_capture::{
     CAPTURE_HEADER_SIZE, Captures, LinkType, is_pcapng, link_type_numbered, unread_link_type,
 };
@@ -29,4 +32,5 @@ pub use runs::{
     Command, Form, Inputs, Limits, Options, run, run_audit, run_audit_from, run_beside, run_list,
     run_sample, run_show,
 };
+pub use source::{Rereading, Source};
 pub use streams::read_input;

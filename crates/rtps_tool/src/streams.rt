@@ -1,19 +1,21 @@
-ghost use Rattle.std.specs.Prelude.{◌≡◌, [], false, ◌+◌, ◌≤◌, ◌<◌, ℕ, List, Option, length, take, vec_len, MatchResult, IfOk};
+ghost use Rattle.std.specs.Prelude.{◌≡◌, [], false, ◌+◌, ◌≤◌, ◌<◌, ℕ, List, Option, length, take, vec_len, MatchResult, IfErr, IfOk};
 ghost use Rattle.std.specs.Io.KnownBytes.{Appends, Consumes, IsAtEnd};
 ghost use Rattle.rtps_tool.specs.Forms as forms;
 ghost use Rattle.rtps_capture.specs.declared.captures.Captures.{Captures as CapturesValue};
-ghost use Rattle.rtps_tool.specs.RecordingText as recording_text;
+ghost use Rattle.rtps_tool.specs.Passes as passes_spec;
 ghost use Rattle.rtps_tool.specs.Runs as runs;
 ghost use Rattle.rtps_tool.specs.Unfinished as unfinished;
 ghost use Rattle.rtps_tool.specs.declared.faults.RunFault.TheVariants.{Input};
 
 use crate::faults::{RecFault, RunFault};
-use crate::form::capture_blocks::read_capture;
+use crate::form::capture_blocks::{CaptureTerms, read_capture};
 use crate::form::either::{begins_capture, read_recording_within};
+use crate::form::hex_lines::take_lines;
 use crate::form::line_reader::{KEPT_MAX, LineReader};
+use crate::form::taking::Take;
 use crate::runs::Limits;
 use rtps_capture::Captures;
-use rtps_report::Recording;
+use rtps_report::{DatagramList, Recording};
 use std::alloc::{AllocError, Global};
 use std::io::{Read, Write};
 
@@ -21,7 +23,7 @@ use std::io::{Read, Write};
 const PIECE: usize = 1 << 16;
 
 /// How many octets are held of a text: an unfinished line, and what is read behind it.
-const HELD: usize = KEPT_MAX + PIECE;
+pub(crate) const HELD: usize = KEPT_MAX + PIECE;
 
 /// How many octets tell the form of an input.
 pub(crate) const FORM: usize = 4;
@@ -47,7 +49,12 @@ pub fn read_input<R: Read>(
         return read_short(alloc, limits, &held[..start]);
     }
     if !begins_capture(captures, &held[..start]) {
-        return read_text_input(alloc, limits, input, &mut held, start);
+        let terms = CaptureTerms {
+            alloc,
+            limits,
+            captures,
+        };
+        return read_text_input(terms, input, &mut held, start);
     }
     read_capture(alloc, limits, captures, input, &held[..start])
 }
@@ -59,7 +66,7 @@ pub(crate) fn zeros(alloc: Global, size: usize) -> Result<Vec<u8>, AllocError>
 }
 
 /// Reads the first octets of the input, as many as tell its form and perhaps more, or all where there are fewer.
-fn read_start<R: Read>(input: &mut R, held: &mut [u8]) -> Result<usize, RunFault>
+pub(crate) fn read_start<R: Read>(input: &mut R, held: &mut [u8]) -> Result<usize, RunFault>
     requires room { length held.old ≡ 196607 }
     ensures { MatchResult result
         (λ start. (start ≤ 65539) × Consumes (R.remaining input.old) (R.remaining input.new) (take start held.new)
@@ -90,49 +97,75 @@ fn read_short(alloc: Global, limits: Limits, octets: &[u8]) -> Result<Recording,
 
 /// Reads the recording that is a text, of which so many octets were read.
 fn read_text_input<R: Read>(
-    alloc: Global,
-    limits: Limits,
+    terms: CaptureTerms,
     input: &mut R,
     held: &mut [u8],
     start: usize,
 ) -> Result<Recording, RunFault>
     requires room { length held.old ≡ 196607 }
     requires begun { (4 ≤ start) × (start ≤ 65539) }
-    ensures { (captures : CapturesValue) (before : Option (List ℕ))
-        → forms.begins_capture captures (take start held.old) ≡ false → Consumes before (R.remaining input.old) (take start held.old)
-        → MatchResult result (runs.ReadsRecording limits captures before (R.remaining input.new)) (runs.FailsReading limits captures before (R.remaining input.new)) }
+    ensures { (before : Option (List ℕ))
+        → forms.begins_capture terms.captures (take start held.old) ≡ false → Consumes before (R.remaining input.old) (take start held.old)
+        → MatchResult result
+        (runs.ReadsRecording terms.limits terms.captures before (R.remaining input.new))
+        (runs.FailsReading terms.limits terms.captures before (R.remaining input.new)) }
 {
-    let mut reader = LineReader::new(alloc);
-    read_pieces(limits, input, &mut reader, held, start)?;
-    Ok(Recording::of_text(alloc, reader.into_datagrams()))
+    let mut list = DatagramList::new(terms.alloc);
+    let _ = take_text(terms, input, held, start, &mut list)?;
+    Ok(Recording::of_text(terms.alloc, list))
 }
 
-/// Reads the lines that are a text, by way of what is held of it: so many octets were read.
-fn read_pieces<R: Read>(
-    limits: Limits,
+/// Tells a taker the datagrams of a text of these octets, which are all the input and too few to begin a capture. Answers how many octets
+/// there are. After an `Err` the taker is of no use.
+pub(crate) fn take_short<T: Take>(
+    terms: CaptureTerms,
+    octets: &[u8],
+    taker: &mut T,
+) -> Result<u64, RunFault>
+    requires { length octets.now < 4 }
+    ensures told { (before now : Option (List ℕ)) (first : T) → Consumes before now octets.now → IsAtEnd now → T.has_taken first [] taker.old
+        → MatchResult result
+        (unfinished.TakesText terms.limits terms.captures before now (λ datagrams. T.has_taken first datagrams taker.new))
+        (runs.FailsReading terms.limits terms.captures before now) }
+    ensures fault { IfErr result passes_spec.IsReadFault }
+{
+    let size = octets.len() as u64;
+    if size > terms.limits.octets {
+        return Err(RunFault::Recording(RecFault::TooMany));
+    }
+    take_lines(terms.alloc, terms.limits.datagrams, octets, taker)?;
+    Ok(size)
+}
+
+/// Tells a taker the datagrams of a text, by way of what is held of it: so many octets were read. Answers how many octets there are. After an
+/// `Err` the taker is of no use.
+pub(crate) fn take_text<R: Read, T: Take>(
+    terms: CaptureTerms,
     input: &mut R,
-    reader: &mut LineReader,
     held: &mut [u8],
     start: usize,
-) -> Result<(), RunFault>
-    requires empty { (reader.old.datagrams ≡ []) × (reader.old.lines ≡ 0) }
+    taker: &mut T,
+) -> Result<u64, RunFault>
     requires room { length held.old ≡ 196607 }
     requires begun { (4 ≤ start) × (start ≤ 65539) }
-    ensures { (captures : CapturesValue) (before : Option (List ℕ))
-        → forms.begins_capture captures (take start held.old) ≡ false → Consumes before (R.remaining input.old) (take start held.old) → MatchResult result
-        (λ _. runs.ReadsRecording limits captures before (R.remaining input.new) (recording_text.unframed reader.new.datagrams))
-        (runs.FailsReading limits captures before (R.remaining input.new)) }
+    ensures told { (before : Option (List ℕ)) (first : T)
+        → forms.begins_capture terms.captures (take start held.old) ≡ false → Consumes before (R.remaining input.old) (take start held.old) → T.has_taken first [] taker.old
+        → MatchResult result
+        (unfinished.TakesText terms.limits terms.captures before (R.remaining input.new) (λ datagrams. T.has_taken first datagrams taker.new))
+        (runs.FailsReading terms.limits terms.captures before (R.remaining input.new)) }
+    ensures fault { IfErr result passes_spec.IsReadFault }
 {
+    let mut reader = LineReader::new(terms.alloc);
     let mut total = start as u128;
     let mut kept = 0;
     let mut got = start;
-    'pieces: while total <= limits.octets as u128 {
-        match reader.feed(limits.datagrams, &mut held[..kept + got], kept) {
+    'pieces: while total <= terms.limits.octets as u128 {
+        match reader.feed(terms.limits.datagrams, &mut held[..kept + got], kept, taker) {
             Ok(left) => kept = left,
             Err(RecFault::Memory) => return Err(RunFault::Memory),
             Err(fault) => {
-                let total = read_on(limits, input, held, total)?;
-                let first = if total > limits.octets as u128 {
+                let total = read_on(terms.limits, input, held, total)?;
+                let first = if total > terms.limits.octets as u128 {
                     RecFault::TooMany
                 } else {
                     fault
@@ -145,8 +178,8 @@ fn read_pieces<R: Read>(
             Err(_) => return Err(RunFault::Input),
         };
         if got == 0 {
-            reader.finish(limits.datagrams, &held[..kept])?;
-            return Ok(());
+            reader.finish(terms.limits.datagrams, &held[..kept], taker)?;
+            return Ok(total as u64);
         }
         total += got as u128;
     }

@@ -28,8 +28,8 @@ pub fn audit_text<P: Watch>(
     ensures { IfOk result (λ audited. report_text.IsAuditedAs asked recording.now (string_bytes audited.0) audited.1) }
 {
     let report = audit_asked(alloc, recording, asked, watch)?;
-    let text = report_text(alloc, &report, recording.ignored())?;
-    Ok((text, ending_if(are_complete(&report.rows))))
+    let audited = report_text(alloc, &report, recording.ignored())?;
+    Ok(audited)
 }
 
 /// How a run ends, by whether each pair is complete.
@@ -78,15 +78,21 @@ fn all_complete(rows: &[Explanation<'_>]) -> bool
     rows.iter().all(|row| is_complete(&row.evidence.verdict))
 }
 
-/// The lines of a report on a recording of which so many frames were ignored, if it has any.
-fn report_text(alloc: Global, report: &Report, ignored: Option<u64>) -> Result<String, AllocError>
-    ensures { IfOk result (λ text. string_bytes text ≡ report_text.report_text report.now.rows.items report.now.counts ignored) }
+/// What `audit` prints of a report on a recording of which so many frames were ignored, if it has any, and how it ends.
+/// `Memory` is answered where the text cannot grow.
+pub fn report_text(
+    alloc: Global,
+    report: &Report,
+    ignored: Option<u64>,
+) -> Result<(String, Ending), Memory>
+    ensures text { IfOk result (λ audited. string_bytes audited.0 ≡ report_text.report_text report.now.rows.items report.now.counts ignored) }
+    ensures ends { IfOk result (λ audited. audited.1 ≡ report_text.ending_of report.now.rows.items) }
 {
     let mut text = String::new(alloc);
     writeln!(text, "pairs {}", report.rows.len())?;
     push_rows(&mut text, &report.rows)?;
     write!(text, "{}", ReportCountsLine(report.counts, ignored))?;
-    Ok(text)
+    Ok((text, ending_if(are_complete(&report.rows))))
 }
 
 fn push_rows(text: &mut String, rows: &[Row]) -> Result<(), AllocError>

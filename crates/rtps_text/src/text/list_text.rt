@@ -90,7 +90,12 @@ fn note_datagrams<'a>(
     Ok(faults)
 }
 
-fn directory_text(alloc: Global, directory: &Directory<'_>, faults: u128) -> Result<String, Memory>
+/// What `list` prints of what is announced, where so many announcements had a fault. `Memory` is answered where the text cannot grow.
+pub fn directory_text(
+    alloc: Global,
+    directory: &Directory<'_>,
+    faults: u128,
+) -> Result<String, Memory>
     ensures { IfOk result (λ text. string_bytes text ≡ list_text_spec.directory_text directory.now faults) }
 {
     let participants = directory.participants()?;

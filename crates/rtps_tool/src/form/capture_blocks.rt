@@ -3,12 +3,13 @@ ghost use Rattle.std.specs.Io.KnownBytes.{Consumes};
 ghost use Rattle.rtps_capture.specs.Course as course;
 ghost use Rattle.rtps_capture.specs.declared.captures.Captures.{Captures as CapturesValue};
 ghost use Rattle.rtps_tool.specs.CaptureBlocks as capture_blocks;
-ghost use Rattle.rtps_tool.specs.Collected as collected_spec;
 ghost use Rattle.rtps_tool.specs.Forms as forms;
 ghost use Rattle.rtps_tool.specs.Runs as runs;
 
 use crate::faults::{RecFault, RunFault};
 use crate::form::collected::Collected;
+use crate::form::taking::Take;
+use crate::form::whole_capture::WholeCapture;
 use crate::runs::Limits;
 use crate::streams::{read_on, zeros};
 use rtps_capture::laws::course_is_told;
@@ -28,6 +29,16 @@ pub(crate) struct Stop {
     fault: CaptureFault,
 }
 
+/// How recordings are read.
+#[derive(Clone, Copy)]
+pub(crate) struct CaptureTerms {
+    pub(crate) alloc: Global,
+    /// How large they may be.
+    pub(crate) limits: Limits,
+    /// Those that are read.
+    pub(crate) captures: Captures,
+}
+
 /// Reads the recording that is a capture, of which these octets were read: they begin it.
 pub(crate) fn read_capture<R: Read>(
     alloc: Global,
@@ -41,39 +52,68 @@ pub(crate) fn read_capture<R: Read>(
     ensures { (before : Option (List ℕ)) → Consumes before (R.remaining input.old) begun.now
         → MatchResult result (runs.ReadsRecording limits captures before (R.remaining input.new)) (runs.FailsReading limits captures before (R.remaining input.new)) }
 {
-    let wanted = Wanted {
+    course_is_told();
+    let terms = CaptureTerms {
+        alloc,
+        limits,
         captures,
-        most: limits.datagrams,
+    };
+    let mut collected = Collected::new(alloc);
+    let whole = take_capture(terms, input, begun, &mut collected)?;
+    Ok(collected.recording(alloc, captures, whole.summary)?)
+}
+
+/// Tells a taker the datagrams of a capture, of which these octets were read: they begin it. After an `Err` the taker is of no use.
+pub(crate) fn take_capture<R: Read, T: Take>(
+    terms: CaptureTerms,
+    input: &mut R,
+    begun: &[u8],
+    taker: &mut T,
+) -> Result<WholeCapture, RunFault>
+    requires begun { 4 ≤ length begun.now }
+    requires form { forms.begins_capture terms.captures begun.now ≡ true }
+    ensures { (before : Option (List ℕ)) → Consumes before (R.remaining input.old) begun.now
+        → MatchResult result
+        (capture_blocks.TakesAll terms.limits terms.captures before (R.remaining input.new) (λ datagrams. (start : T) → T.has_taken start [] taker.old → T.has_taken start datagrams taker.new))
+        (runs.FailsReading terms.limits terms.captures before (R.remaining input.new)) }
+{
+    let wanted = Wanted {
+        captures: terms.captures,
+        most: terms.limits.datagrams,
         block: PIECE,
     };
-    match CaptureReader::open(alloc, wanted, begun, input)? {
-        Opened::Capture(mut reader) => collect(alloc, limits, captures, input, &mut reader),
+    match CaptureReader::open(terms.alloc, wanted, begun, input)? {
+        Opened::Capture(mut reader) => take_whole(terms, input, &mut reader, taker),
         Opened::Other { read, ended } => {
             let fault = CaptureFault::BadCapture;
-            Err(fault_behind(alloc, limits, input, Stop { read, ended, fault }))
+            let stop = Stop { read, ended, fault };
+            Err(fault_behind(terms.alloc, terms.limits, input, stop))
         }
     }
 }
 
-/// Reads the recording that is a capture, whose datagrams are left to be read.
-fn collect<R: Read>(
-    alloc: Global,
-    limits: Limits,
-    captures: Captures,
+/// Tells a taker the datagrams of a capture that are left to be read.
+fn take_whole<R: Read, T: Take>(
+    terms: CaptureTerms,
     input: &mut R,
     reader: &mut CaptureReader,
-) -> Result<Recording, RunFault>
-    ensures { (before : Option (List ℕ)) → capture_blocks.CameSo limits captures before (R.remaining input.old) reader.old []
-        → MatchResult result (runs.ReadsRecording limits captures before (R.remaining input.new)) (runs.FailsReading limits captures before (R.remaining input.new)) }
+    taker: &mut T,
+) -> Result<WholeCapture, RunFault>
+    ensures { (before : Option (List ℕ)) → capture_blocks.CameSo terms.limits terms.captures before (R.remaining input.old) reader.old []
+        → MatchResult result
+        (capture_blocks.TakesAll terms.limits terms.captures before (R.remaining input.new) (λ datagrams. (start : T) → T.has_taken start [] taker.old → T.has_taken start datagrams taker.new))
+        (runs.FailsReading terms.limits terms.captures before (R.remaining input.new)) }
 {
-    course_is_told();
-    let mut collected = Collected::new(alloc);
-    match collect_all(limits, input, reader, &mut collected) {
+    let limits = terms.limits;
+    match take_all(limits, input, reader, taker) {
         Ok(()) if reader.octets_read() > limits.octets => Err(RunFault::Recording(
             RecFault::TooMany,
         )),
-        Ok(()) => Ok(collected.recording(alloc, captures, reader.summary())?),
-        Err(fault) => Err(fault_told(alloc, limits, input, reader, fault)),
+        Ok(()) => Ok(WholeCapture {
+            summary: reader.summary(),
+            octets: reader.octets_read(),
+        }),
+        Err(fault) => Err(fault_told(terms.alloc, limits, input, reader, fault)),
     }
 }
 
@@ -85,8 +125,7 @@ fn fault_told<R: Read>(
     reader: &CaptureReader,
     fault: ReadFault,
 ) -> RunFault
-    ensures { (captures : CapturesValue) (before : Option (List ℕ)) (collected : collected_spec.CollectedValue)
-        → capture_blocks.Collects limits captures before (R.remaining input.old) reader.now collected (Err fault)
+    ensures { (captures : CapturesValue) (before : Option (List ℕ)) → capture_blocks.FailsTaking limits captures before (R.remaining input.old) reader.now fault
         → runs.FailsReading limits captures before (R.remaining input.new) result }
 {
     let fault = match fault {
@@ -111,16 +150,18 @@ fn is_memory(fault: CaptureFault) -> bool
     matches!(fault, CaptureFault::Memory)
 }
 
-/// Collects the datagrams of a capture, to its end or past the most octets that it may have.
-fn collect_all<R: Read>(
+/// Tells a taker the datagrams of a capture, to its end or past the most octets that it may have.
+fn take_all<R: Read, T: Take>(
     limits: Limits,
     input: &mut R,
     reader: &mut CaptureReader,
-    collected: &mut Collected,
+    taker: &mut T,
 ) -> Result<(), ReadFault>
     ensures { (captures : CapturesValue) (before : Option (List ℕ)) (datagrams : List course.DatagramValue)
-        → capture_blocks.CameSo limits captures before (R.remaining input.old) reader.old datagrams → collected.old ≡ collected_spec.collected_of datagrams
-        → capture_blocks.Collects limits captures before (R.remaining input.new) reader.new collected.new result }
+        → capture_blocks.CameSo limits captures before (R.remaining input.old) reader.old datagrams
+        → MatchResult result
+        (λ _. capture_blocks.Takes limits captures before (R.remaining input.new) reader.new (λ more. (start : T) → T.has_taken start datagrams taker.old → T.has_taken start more taker.new))
+        (capture_blocks.FailsTaking limits captures before (R.remaining input.new) reader.new) }
 {
     'datagrams: while reader.octets_read() <= limits.octets {
         let found = reader.advance(input)?;
@@ -128,7 +169,7 @@ fn collect_all<R: Read>(
             return Ok(());
         }
         if let Some(datagram) = reader.datagram() {
-            collected.push(datagram.octets, datagram.time, datagram.frame)?;
+            taker.take(&datagram)?;
         }
     }
     Ok(())

@@ -3,7 +3,8 @@ ghost use Rattle.rtps_capture.specs.Course as course;
 ghost use Rattle.rtps_tool.specs.Collected as collected_spec;
 ghost use Rattle.rtps_tool.specs.RecordingCapture as recording_capture;
 
-use rtps_capture::{Captures, Summary};
+use crate::form::taking::Take;
+use rtps_capture::{Captures, Datagram, Summary};
 use rtps_ids::Memory;
 use rtps_report::{DatagramSpan, Links, Reasons, Recording, Times, make_room, push_octets};
 use std::alloc::Global;
@@ -44,12 +45,7 @@ impl Collected {
     }
 
     /// Collects one datagram more. `Memory` is answered, too, where it has no span ([`DatagramSpan::new`]).
-    pub(crate) fn push(
-        &mut self,
-        octets: &[u8],
-        time: Option<u64>,
-        frame: u64,
-    ) -> Result<(), Memory>
+    fn push(&mut self, octets: &[u8], time: Option<u64>, frame: u64) -> Result<(), Memory>
         ensures { OnOk result (self.new ≡ collected_spec.with_one self.old octets.now time frame) }
     {
         let from = self.octets.len();
@@ -90,5 +86,15 @@ impl Collected {
             Captures::Classic => Ok(Recording::of_capture(self.octets, self.spans, times, ignored)),
             Captures::Any => Ok(Recording::of_any_capture(self.octets, self.spans, times, reasons)),
         }
+    }
+}
+
+impl Take for Collected {
+    ghost use Rattle.rtps_tool.specs.Collected as collected_spec;
+
+    ghost has_taken = { collected_spec.HasTaken };
+
+    fn take(&mut self, datagram: &Datagram<'_>) -> Result<(), Memory> {
+        self.push(datagram.octets, datagram.time, datagram.frame)
     }
 }

@@ -1,14 +1,20 @@
-ghost use Rattle.std.specs.Prelude.{◌≡◌, ◌≤◌, ◌∷◌, ◌++◌, [], length, take, ℕ, List, None, Ok, MatchResult};
+ghost use Rattle.std.specs.Prelude.{◌≡◌, ◌≤◌, [], ℕ, List, length, take, is_ok, None, Ok, IfOk, IsTrue, MatchResult};
 ghost use Rattle.std.specs.List.{position};
 ghost use Rattle.std.specs.Str.Lines.{strip_carriage_return};
+ghost use Rattle.hex.specs.Hex.{decode_of};
+ghost use Rattle.rtps_digits.specs.Pairs as pairs;
 ghost use Rattle.rtps_tool.specs.Outcomes as outcomes;
 ghost use Rattle.rtps_tool.specs.Lines as lines;
 ghost use Rattle.rtps_tool.specs.RecordingText as recording_text;
+ghost use Rattle.rtps_tool.specs.Sums as sums;
 
 use crate::faults::RecFault;
 use crate::form::line_reader::LineReader;
+use crate::form::taking::Take;
+use rtps_capture::Datagram;
+use rtps_ids::Memory;
 use rtps_report::{DatagramList, Recording};
-use std::alloc::Global;
+use std::alloc::{AllocError, Global};
 
 /// The most digits of a datagram: two for each of 65,535 octets, as UDP carries no more.
 pub(crate) const DIGITS_MAX: usize = 131_070;
@@ -45,41 +51,49 @@ pub(crate) fn read_text(alloc: Global, most: u64, text: &[u8]) -> Result<Recordi
         (λ recording. recording_text.recording_of_text most text.now ≡ Ok recording)
         (outcomes.IsFaultOf (recording_text.recording_of_text most text.now)) }
 {
-    let mut reader = LineReader::new(alloc);
-    let from = reader.read_complete(most, text, 0)?;
-    reader.finish(most, &text[from..])?;
-    Ok(Recording::of_text(alloc, reader.into_datagrams()))
+    let mut list = DatagramList::new(alloc);
+    take_lines(alloc, most, text, &mut list)?;
+    Ok(Recording::of_text(alloc, list))
 }
 
-/// Appends the datagram that a line stands for, if it stands for one. There may be so many in all.
-pub(crate) fn read_line(
-    datagrams: &mut DatagramList,
+/// Tells a taker the datagrams of a text, of which there may be so many. After an `Err` the taker is of no use.
+pub(crate) fn take_lines<T: Take>(
+    alloc: Global,
     most: u64,
-    number: u64,
-    line: &[u8],
+    text: &[u8],
+    taker: &mut T,
 ) -> Result<(), RecFault>
-    ensures { let defined = recording_text.recording_of_lines most number (length datagrams.old) (line.now ∷ []) in MatchResult result
-        (λ _. (found : List (List ℕ)) × (defined ≡ Ok found) × (datagrams.new ≡ datagrams.old ++ found))
+    ensures { (first : T) → T.has_taken first [] taker.old
+        → let defined = recording_text.recording_of_lines most 1 0 (lines.lines_of text.now) in MatchResult result
+        (λ _. (all : List (List ℕ)) × (defined ≡ Ok all) × T.has_taken first (recording_text.untimed all) taker.new)
         (outcomes.IsFaultOf defined) }
 {
-    if !is_datagram_line(line) {
-        return Ok(());
+    let mut reader = LineReader::new(alloc);
+    let from = reader.read_complete(most, text, 0, taker)?;
+    reader.finish(most, &text[from..], taker)
+}
+
+impl Take for DatagramList {
+    ghost has_taken = { λ start datagrams list. start ≡ [] → list ≡ sums.octets_of datagrams };
+
+    fn take(&mut self, datagram: &Datagram<'_>) -> Result<(), Memory> {
+        self.push(datagram.octets)?;
+        Ok(())
     }
-    if datagrams.len() as u64 >= most {
-        return Err(RecFault::TooMany);
-    }
-    if line.len() > DIGITS_MAX {
-        return Err(RecFault::TooLong { line: number });
-    }
-    if !datagrams.push_hex(line)? {
-        return Err(RecFault::BadHex { line: number });
-    }
-    Ok(())
 }
 
 /// Whether a line stands for a datagram.
-fn is_datagram_line(line: &[u8]) -> bool
+pub(crate) fn is_datagram_line(line: &[u8]) -> bool
     ensures { result ≡ recording_text.is_datagram_line line.now }
 {
     !line.is_empty() && line[0] != b'#'
+}
+
+/// Puts the octets that these digits stand for in place of those that are there, and answers whether they stand for any.
+pub(crate) fn decode_line(octets: &mut Vec<u8>, digits: &[u8]) -> Result<bool, AllocError>
+    ensures found { IfOk result (λ found. found ≡ is_ok (decode_of digits.now)) }
+    ensures octets { IfOk result (λ found. IsTrue found → octets.new.items ≡ pairs.octets_of digits.now) }
+{
+    octets.resize(digits.len() / 2, 0)?;
+    Ok(rtps_digits::decode(octets.as_mut_slice(), digits))
 }
