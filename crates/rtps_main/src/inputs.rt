@@ -91,9 +91,19 @@ impl Opened {
         }
     }
 
-    /// Reads on.
-    fn read(&self, buf: &mut [u8]) -> io::Result<usize> {
-        match self {
+    /// Goes to the start. Only a file has one that can be gone to.
+    fn go_to_start(&self) -> io::Result<()> {
+        let Opened::File(file) = self else {
+            return Err(io::Error::from(io::ErrorKind::Unsupported));
+        };
+        let mut file = file;
+        file.rewind()
+    }
+}
+
+impl Read for &Opened {
+    fn read(&mut self, buf: &mut [u8]) -> io::Result<usize> {
+        match *self {
             Opened::Nothing => Ok(0),
             Opened::Standard(input) => {
                 let mut input = *input;
@@ -105,15 +115,6 @@ impl Opened {
             }
             Opened::Unopened(error) => Err(same_error(error)),
         }
-    }
-
-    /// Goes to the start. Only a file has one that can be gone to.
-    fn go_to_start(&self) -> io::Result<()> {
-        let Opened::File(file) = self else {
-            return Err(io::Error::from(io::ErrorKind::Unsupported));
-        };
-        let mut file = file;
-        file.rewind()
     }
 }
 
@@ -177,7 +178,8 @@ impl<'a> Remembering<'a> {
 
 impl Read for Remembering<'_> {
     fn read(&mut self, buf: &mut [u8]) -> io::Result<usize> {
-        let outcome = self.opened.read(buf);
+        let mut opened = self.opened;
+        let outcome = opened.read(buf);
         match &outcome {
             Ok(got) => {
                 self.seen.take(&buf[..*got]);
