@@ -21,6 +21,7 @@ const IP_SIZE: usize = 20;
 const UDP_SIZE: usize = 8;
 
 /// A capture in memory, and what it is from the second pass on.
+#[derive(Clone, Copy)]
 struct Captured<'a> {
     first: &'a [u8],
     later: &'a [u8],
