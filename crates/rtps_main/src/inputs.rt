@@ -1,5 +1,7 @@
 //! The inputs of a run, and what is known of them.
 
+ghost use Rattle.std.specs.Io.{ReadsAtMost};
+
 use crate::progress::Progress;
 use rtps_tool::{CAPTURE_HEADER_SIZE, Source};
 use std::fs::File;
@@ -91,19 +93,11 @@ impl Opened {
         }
     }
 
-    /// Goes to the start. Only a file has one that can be gone to.
-    fn go_to_start(&self) -> io::Result<()> {
-        let Opened::File(file) = self else {
-            return Err(io::Error::from(io::ErrorKind::Unsupported));
-        };
-        let mut file = file;
-        file.rewind()
-    }
-}
-
-impl Read for &Opened {
-    fn read(&mut self, buf: &mut [u8]) -> io::Result<usize> {
-        match *self {
+    /// Reads on.
+    fn read(&self, buf: &mut [u8]) -> io::Result<usize>
+        ensures { ReadsAtMost result buf.new }
+    {
+        match self {
             Opened::Nothing => Ok(0),
             Opened::Standard(input) => {
                 let mut input = *input;
@@ -115,6 +109,15 @@ impl Read for &Opened {
             }
             Opened::Unopened(error) => Err(same_error(error)),
         }
+    }
+
+    /// Goes to the start. Only a file has one that can be gone to.
+    fn go_to_start(&self) -> io::Result<()> {
+        let Opened::File(file) = self else {
+            return Err(io::Error::from(io::ErrorKind::Unsupported));
+        };
+        let mut file = file;
+        file.rewind()
     }
 }
 
@@ -178,8 +181,7 @@ impl<'a> Remembering<'a> {
 
 impl Read for Remembering<'_> {
     fn read(&mut self, buf: &mut [u8]) -> io::Result<usize> {
-        let mut opened = self.opened;
-        let outcome = opened.read(buf);
+        let outcome = self.opened.read(buf);
         match &outcome {
             Ok(got) => {
                 self.seen.take(&buf[..*got]);
