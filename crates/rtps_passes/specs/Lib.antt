@@ -1,0 +1,3 @@
+pub mod Survey
+pub mod Judging
+pub mod Comparison
