@@ -2,6 +2,7 @@ pub mod AmountLemmas
 pub mod FirstNumbersLemmas
 pub mod FindLemmas
 pub mod MadeLemmas
+pub mod PayloadLemmas
 pub mod OriginLemmas
 pub mod Shown
 pub mod RowLemmas
@@ -21,6 +22,7 @@ pub mod GoneLemmas
 pub mod QuestionedLemmas
 pub mod SilenceLemmas
 pub mod SpanLemmas
+pub mod NewcomerLemmas
 pub mod OutcomeLemmas
 pub mod ClaimedThen
 pub mod CountedLemmas
@@ -37,6 +39,8 @@ pub mod TimeLemmas
 pub mod WaitLemmas
 pub mod HeardLemmas
 pub mod LedgerLemmas
+pub mod CaseLemmas
+pub mod TogetherLemmas
 pub mod PlaceOrder
 pub mod KeptLemmas
 pub mod KindLemmas

@@ -1,7 +1,7 @@
 -- The numbers that are asked for and missed.
 use Rattle.std.proofs.lemmas.Grind.{common_steps}
 use Rattle.std.proofs.lemmas.Bool.Decides.{nat_tests}
-use Rattle.std.proofs.Common.{◌≡◌, ◌∙◌, ℕ, ◌+◌, ◌≤◌, ◌&&◌, ◌||◌, Bool, true, false, cond, not, filter, List, [], ◌∷◌, Option, Some, None, refl, ap, arith, rules}
+use Rattle.std.proofs.Common.{◌≡◌, ◌∙◌, ℕ, ◌+◌, ◌≤◌, ◌&&◌, ◌||◌, Bool, true, false, cond, not, filter, List, [], ◌∷◌, ◌++◌, Option, Some, None, refl, sym, ap, arith, rules}
 use Rattle.std.specs.List.{cons_option, find, list_any}
 use Rattle.std.specs.Option.{option_map}
 use Rattle.std.specs.Prelude.{if◌then◌else◌}
@@ -24,7 +24,7 @@ use Rattle.rtps_evidence.specs.declared.teller.Teller.{Teller}
 use Rattle.rtps_evidence.specs.declared.location.Location.{Location}
 use Rattle.rtps_evidence.proofs.ClaimedLemmas.{withdrawer}
 use Rattle.rtps_coverage.proofs.Offered.{count_same}
-use Rattle.rtps_evidence.proofs.FindLemmas.{any_filter, find_filter}
+use Rattle.rtps_evidence.proofs.FindLemmas.{any_filter, any_one_more, find_filter}
 use Rattle.rtps_evidence.proofs.NotReceivedLemmas.{least_same}
 use Rattle.rtps_evidence.proofs.QuestionLemmas.{filter_filter}
 
@@ -99,6 +99,33 @@ pub asked_last : (writer reader : Guid) (n : ℕ) (placed : List placed_spec.Pla
     → again ≡ missed.again_behind asked writer reader n placed → gone ≡ missed.gone_behind asked writer reader n placed → is_sent ≡ list_any (missed.brings writer reader n) placed
     → ◌≡◌ {A = Option FirstMissed} (Some (record { number = n; asked = asked; again = again; gone = gone; is_sent = is_sent })) (option_map (missed.missed_at writer reader n placed) asking)
 asked_last writer reader n placed asking asked again gone is_sent h h2 h3 h4 = grind (arith, nat_tests)
+
+-- a number that is missed, with one act more of the writer
+pub missed_more : (writer reader : Guid) (asked : Location) (acts : List placed_spec.PlacedValue) (x : placed_spec.PlacedValue) (old : FirstMissed) (again : Option Location) (gone : Option Teller) (is_sent : Bool)
+    → (old.again ≡ missed.again_behind old.asked writer reader old.number acts → again ≡ missed.again_behind old.asked writer reader old.number (acts ++ x ∷ []))
+    → (old.gone ≡ missed.gone_behind old.asked writer reader old.number acts → gone ≡ missed.gone_behind old.asked writer reader old.number (acts ++ x ∷ []))
+    → is_sent ≡ (old.is_sent || missed.brings writer reader old.number x) → missed.IsMissedBy writer reader asked acts old
+    → missed.IsMissedBy writer reader asked (acts ++ x ∷ []) (record { number = old.number; asked = old.asked; again = again; gone = gone; is_sent = is_sent })
+missed_more writer reader asked acts x old again gone is_sent again_step gone_step sent are = record {
+  asked_is = are.asked_is;
+  again = again_step are.again;
+  gone = gone_step are.gone;
+  sent = sent ∙ ap (λ b. b || missed.brings writer reader old.number x) are.sent ∙ sym (any_one_more (missed.brings writer reader old.number) acts x);
+}
+
+moved : {A B C : Type 0} (f : A → B → C) (a b : A) (m n : B) → a ≡ b → m ≡ n → f a m ≡ f b n
+moved f a b m n same equal = cc
+
+-- it is so by all that the writer said
+pub missed_whole : (writer reader : Guid) (n : ℕ) (own all : List placed_spec.PlacedValue) (asking : Option placed_spec.PlacedValue) (asked : Location) (found : FirstMissed) → found.number ≡ n → missed.IsMissedBy writer reader asked own found
+    → Some asked ≡ option_map locations.location_of asking → missed.again_behind asked writer reader n own ≡ missed.again_behind asked writer reader n all → missed.gone_behind asked writer reader n own ≡ missed.gone_behind asked writer reader n all
+    → list_any (missed.brings writer reader n) own ≡ list_any (missed.brings writer reader n) all → ◌≡◌ {A = Option FirstMissed} (Some found) (option_map (missed.missed_at writer reader n all) asking)
+missed_whole writer reader n own all asking asked found number are stands again gone sent =
+    moved (λ (place : Location) (m : ℕ). Some (let one : FirstMissed = record { number = m; asked = place; again = found.again; gone = found.gone; is_sent = found.is_sent } in one)) found.asked asked found.number n are.asked_is number
+    ∙ asked_last writer reader n all asking asked found.again found.gone found.is_sent stands
+    (are.again ∙ moved (λ (place : Location) (m : ℕ). missed.again_behind place writer reader m own) found.asked asked found.number n are.asked_is number ∙ again)
+    (are.gone ∙ moved (λ (place : Location) (m : ℕ). missed.gone_behind place writer reader m own) found.asked asked found.number n are.asked_is number ∙ gone)
+    (are.sent ∙ ap (λ (m : ℕ). list_any (missed.brings writer reader m) own) number ∙ sent)
 
 -- ---- where the reader is announced
 

@@ -1,6 +1,6 @@
 -- The last element that passes, and where the last answer stands; how often the reader was asked since then, one act more at a time.
 use Rattle.std.proofs.lemmas.Grind.{common_steps}
-use Rattle.std.proofs.Common.{◌≡◌, ◌∙◌, ℕ, ◌+◌, ◌-◌, ◌^◌, ◌<◌, ◌≤◌, ◌&&◌, Bool, true, false, cond, List, [], ◌∷◌, ◌++◌, filter, get_or, length, map, min, take, Option, Some, None, refl, sym, ap, subst, arith, pos}
+use Rattle.std.proofs.Common.{◌≡◌, ◌∙◌, ℕ, ◌+◌, ◌-◌, ◌^◌, ◌<◌, ◌≤◌, ◌&&◌, Bool, true, false, cond, List, [], ◌∷◌, ◌++◌, filter, get_or, length, min, take, Option, Some, None, refl, sym, ap, subst, arith, pos}
 use Rattle.std.specs.Prelude.{is_some, if◌then◌else◌, slice_get, unwrap_or}
 use Rattle.std.specs.List.{cons_option, find, last_or}
 use Rattle.std.specs.Option.{option_map, option_or}
@@ -16,7 +16,6 @@ use Rattle.rtps_receiver.specs.Values as values
 use Rattle.rtps_audit.specs.Placed as placed_spec
 use Rattle.rtps_audit.specs.Speech as audit_speech
 use Rattle.rtps_audit.specs.declared.answer.Answer.{Answer}
-use Rattle.rtps_audit.specs.declared.placed.Placed.{Placed}
 use Rattle.rtps_audit.proofs.Offered.{speaker_is_origin}
 use Rattle.rtps_evidence.specs.Locations as locations
 use Rattle.rtps_evidence.specs.Questions as questions_spec
@@ -28,21 +27,7 @@ last_is : {X : Type 0} (o : Option X) (xs : List X) (x : X) → last_or o (xs ++
 last_is o [] x = refl
 last_is o (y ∷ xs) x = last_is (Some y) xs x
 
--- ---- those that pass, with one element more
-
-filter_past : {X Y : Type 0} (v : X → Y) (test : Y → Bool) (xs : List X) (i : ℕ) (x : X) → i < length xs → x ≡ get_or xs i x → (b : Bool) → test (v x) ≡ b
-    → filter test (map v (take (i + 1) xs)) ≡ filter test (map v (take i xs)) ++ cond b (v x ∷ []) []
-filter_past v test xs i x lt at b is = grind (arith, nat_tests, common_steps)
-
--- of the first `i` acts, the last that passes stands there
-pub last_passing : (test : placed_spec.PlacedValue → Bool) (acts : List Placed) (i : ℕ) (x : Placed) (place : Location) → i < length acts → x ≡ get_or acts i x → test (placed_spec.placed_value x) ≡ true → place ≡ locations.location_of (placed_spec.placed_value x)
-    → Some place ≡ option_map locations.location_of (last_or None (filter test (map placed_spec.placed_value (take (i + 1) acts))))
-last_passing test acts i x place lt at is stands = grind (arith, nat_tests, common_steps, filter_past, last_is)
-
-pub last_failing : (test : placed_spec.PlacedValue → Bool) (acts : List Placed) (i : ℕ) (x : Placed) (last : Option Location) → i < length acts → x ≡ get_or acts i x → test (placed_spec.placed_value x) ≡ false
-    → last ≡ option_map locations.location_of (last_or None (filter test (map placed_spec.placed_value (take i acts)))) → last ≡ option_map locations.location_of (last_or None (filter test (map placed_spec.placed_value (take (i + 1) acts))))
-last_failing test acts i x last lt at is so_far = grind (arith, nat_tests, common_steps)
-
+-- where the last answer stands, with one more
 pub last_place_more : (answers : List Answer) (i : ℕ) (d : Answer) (place : Location) → i < length answers → place ≡ questions_spec.place_of (get_or answers i d) → Some place ≡ option_map questions_spec.place_of (last_or None (take (i + 1) answers))
 last_place_more answers i d place lt is = grind (arith, nat_tests, common_steps, take_more, last_is)
 

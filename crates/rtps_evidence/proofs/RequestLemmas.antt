@@ -65,6 +65,13 @@ last_of_more test xs x = ap (last_or None) (filtered xs) ∙ by (test x)
     by true = last_pushed None (filter test xs)
     by false = ap (last_or None) (same_list (filter test xs))
 
+-- where the last one stands that passes, with one act more
+pub last_noted : (test : placed.PlacedValue → Bool) (acts : List placed.PlacedValue) (x : placed.PlacedValue) → test x ≡ true → Some (locations.location_of x) ≡ option_map locations.location_of (locations.find_last test (acts ++ x ∷ []))
+last_noted test acts x is = sym (ap (option_map locations.location_of) (last_of_more test acts x ∙ ap (λ b. cond b (Some x) (locations.find_last test acts)) is))
+
+pub last_passed : (test : placed.PlacedValue → Bool) (acts : List placed.PlacedValue) (x : placed.PlacedValue) (last : Option Location) → test x ≡ false → last ≡ option_map locations.location_of (locations.find_last test acts) → last ≡ option_map locations.location_of (locations.find_last test (acts ++ x ∷ []))
+last_passed test acts x last out is = is ∙ sym (ap (option_map locations.location_of) (last_of_more test acts x ∙ ap (λ b. cond b (Some x) (locations.find_last test acts)) out))
+
 pub requested_more : (pair : Pair) (xs : List placed.PlacedValue) (x : placed.PlacedValue) (lacks : ℕ → Bool) (n : ℕ)
     → cond (missed.asks_for pair.writer pair.reader n x && lacks n) (Some (requests.new_request (locations.location_of x))) (requests.requested pair xs lacks n) ≡ requests.requested pair (xs ++ x ∷ []) lacks n
 requested_more pair xs x lacks n = grind (arith, nat_tests, common_steps, last_of_more)

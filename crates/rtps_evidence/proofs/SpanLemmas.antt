@@ -1,12 +1,10 @@
 -- Where a reader joins and leaves, and from which number on.
 use Rattle.std.proofs.lemmas.Grind.{common_steps}
-use Rattle.std.proofs.lemmas.List.{map-append}
-use Rattle.std.proofs.Common.{◌≡◌, ◌∙◌, ℕ, suc, ◌+◌, ◌-◌, ◌<◌, ◌≤◌, ◌^◌, ◌&&◌, ◌||◌, Bool, true, false, cond, not, nat_lt, max, map, filter, get_or, length, take, List, [], ◌∷◌, ◌++◌, append-nil, append_assoc, take-append-drop, drop, Option, Some, None, refl, sym, ap, subst, arith, inl, inr, rules}
+use Rattle.std.proofs.Common.{◌≡◌, ◌∙◌, ℕ, suc, ◌+◌, ◌-◌, ◌<◌, ◌≤◌, ◌^◌, ◌&&◌, ◌||◌, Bool, true, false, cond, not, nat_lt, max, map, filter, get_or, length, take, List, [], ◌∷◌, ◌++◌, append-nil, Option, Some, None, refl, sym, ap, subst, arith, inl, inr, rules}
 use Rattle.std.specs.Prelude.{IfSome, unwrap_or}
 use Rattle.std.specs.List.{before_first, cons_option, find, list_any, prefix_len}
 use Rattle.std.specs.Option.{option_map}
 use Rattle.std.proofs.lemmas.Bool.{and_parts, cases_lt}
-use Rattle.std.proofs.lemmas.List.Folds.{list_any-append}
 use Rattle.std.proofs.lemmas.Bool.Decides.{nat_tests}
 use Rattle.rtps_ids.specs.declared.identity.Guid.{Guid}
 use Rattle.rtps_discovery.specs.Leaving as leaving
@@ -18,7 +16,6 @@ use Rattle.rtps_receiver.specs.declared.said.Numbers.{Numbers}
 use Rattle.rtps_audit.specs.Delivery as delivery
 use Rattle.rtps_audit.specs.Intake as intake
 use Rattle.rtps_audit.specs.Placed as placed_spec
-use Rattle.rtps_audit.specs.declared.placed.Placed.{Placed}
 use Rattle.rtps_audit.specs.Speech as audit_speech
 use Rattle.rtps_audit.proofs.Offered.{speaker_is_origin}
 use Rattle.rtps_evidence.proofs.AskingLemmas.{requester_is_origin}
@@ -27,7 +24,7 @@ use Rattle.rtps_evidence.specs.Missed as missed
 use Rattle.rtps_evidence.specs.Spans as spans
 use Rattle.rtps_evidence.specs.declared.location.Location.{Location}
 use Rattle.rtps_evidence.proofs.MissedLemmas.{brought_same}
-use Rattle.rtps_evidence.proofs.FindLemmas.{any_filter}
+use Rattle.rtps_evidence.proofs.FindLemmas.{any_filter, any_one_more}
 use Rattle.rtps_evidence.proofs.PlacedOrder.{AreOrdered}
 
 -- ---- the least number that has it
@@ -51,6 +48,12 @@ pub least_more : {X Y : Type 0} (v : X → Y) (test : ℕ → Y → Bool) (xs : 
     → spans.IsLeastFrom (λ n. list_any (test n) (map v (take i xs))) lo one → spans.IsLeastFrom (λ n. test n (v x)) lo other → found ≡ spans.lesser_of one other
     → spans.IsLeastFrom (λ n. list_any (test n) (map v (take (i + 1) xs))) lo found
 least_more v test xs i x lo one other found lt at so_far here is = grind (arith, nat_tests, common_steps)
+
+-- with one act more
+pub least_told : (test : ℕ → placed_spec.PlacedValue → Bool) (acts : List placed_spec.PlacedValue) (x : placed_spec.PlacedValue) (lo : ℕ) (one other found : Option ℕ) → spans.IsLeastFrom (λ n. list_any (test n) acts) lo one → spans.IsLeastFrom (λ n. test n x) lo other
+    → found ≡ spans.lesser_of one other → spans.IsLeastFrom (λ n. list_any (test n) (acts ++ x ∷ [])) lo found
+least_told test acts x lo one other found so_far here is =
+    subst (spans.IsLeastFrom (λ n. list_any (test n) (acts ++ x ∷ [])) lo) (sym is) (least_same (λ n. list_any (test n) (acts ++ x ∷ [])) (λ n. list_any (test n) acts || test n x) lo (spans.lesser_of one other) (λ n. any_one_more (test n) acts x) (least_either (λ n. list_any (test n) acts) (λ n. test n x) lo one other so_far here))
 
 pub lesser_below : (one other found : Option ℕ) → IfSome one (λ number. number < 2 ^ 63) → IfSome other (λ number. number < 2 ^ 63) → found ≡ spans.lesser_of one other → IfSome found (λ number. number < 2 ^ 63)
 lesser_below one other found low under is = grind (arith, nat_tests)
@@ -167,23 +170,9 @@ before_first_on test (x ∷ xs) ys none = first_past test x (xs ++ ys) (here (te
 pub before_first_at : (test : placed_spec.PlacedValue → Bool) (xs : List placed_spec.PlacedValue) (x : placed_spec.PlacedValue) (ys : List placed_spec.PlacedValue) → list_any test xs ≡ false → test x ≡ true → before_first test (xs ++ x ∷ ys) ≡ xs
 before_first_at test xs x ys none is = before_first_on test xs (x ∷ ys) none ∙ ap (λ l. xs ++ l) (first_stops test x ys is) ∙ append-nil xs
 
--- the same of acts of the code, up to the one at a place, by which it stops
-pub before_first_here : (test : placed_spec.PlacedValue → Bool) (acts : List Placed) (i : ℕ) (x : Placed) → map placed_spec.placed_value (take (i + 1) acts) ≡ map placed_spec.placed_value (take i acts) ++ placed_spec.placed_value x ∷ []
-    → list_any test (map placed_spec.placed_value (take i acts)) ≡ false → test (placed_spec.placed_value x) ≡ true → before_first test (map placed_spec.placed_value acts) ≡ map placed_spec.placed_value (take i acts)
-before_first_here test acts i x more none is =
-    ap (λ l. before_first test (map placed_spec.placed_value l)) (sym (take-append-drop (i + 1) acts))
-    ∙ ap (before_first test) (map-append placed_spec.placed_value (take (i + 1) acts) (drop (i + 1) acts) ∙ ap (λ l. l ++ map placed_spec.placed_value (drop (i + 1) acts)) more ∙ append_assoc (map placed_spec.placed_value (take i acts)) (placed_spec.placed_value x ∷ []) (map placed_spec.placed_value (drop (i + 1) acts)))
-    ∙ before_first_at test (map placed_spec.placed_value (take i acts)) (placed_spec.placed_value x) (map placed_spec.placed_value (drop (i + 1) acts)) none is
-
 -- all of them, where it does not stop
 pub before_first_all : (test : placed_spec.PlacedValue → Bool) (xs : List placed_spec.PlacedValue) → list_any test xs ≡ false → before_first test xs ≡ xs
 before_first_all test xs none = sym (ap (before_first test) (append-nil xs)) ∙ before_first_on test xs [] none ∙ append-nil xs
-
-or_no : (b : Bool) → (b || false) ≡ b
-or_no b = grind (arith, nat_tests)
-
-pub any_one_more : (test : placed_spec.PlacedValue → Bool) (xs : List placed_spec.PlacedValue) (x : placed_spec.PlacedValue) → list_any test (xs ++ x ∷ []) ≡ (list_any test xs || test x)
-any_one_more test xs x = list_any-append test xs (x ∷ []) ∙ ap (λ b. list_any test xs || b) (or_no (test x))
 
 -- of acts that are left out none passes, and none has it
 pub before_first_same : (test has keeps : placed_spec.PlacedValue → Bool) → ((x : placed_spec.PlacedValue) → keeps x ≡ false → test x ≡ false) → ((x : placed_spec.PlacedValue) → keeps x ≡ false → has x ≡ false) → (xs : List placed_spec.PlacedValue)

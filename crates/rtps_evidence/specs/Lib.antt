@@ -11,6 +11,7 @@ pub mod CountedAnswers
 pub mod LastAsks
 pub mod Requests
 pub mod Spans
+pub mod Newcomers
 pub mod Outcomes
 pub mod UnansweredLaw
 pub mod GoneRanges
@@ -25,8 +26,11 @@ pub mod Grounds
 pub mod Evidence
 pub mod Certificates
 pub mod Explanation
+pub mod Ears
 pub mod Times
 pub mod Waits
 pub mod Heard
 pub mod Ledger
+pub mod Cases
 pub mod WayRound
+pub mod Together

@@ -1,7 +1,7 @@
 -- Where a recording shows what a pair said: who announced a number, who told it, what was sent for it, and what was
 -- answered. DDSI-RTPS 2.5, 8.3.8.1 "AckNack", 8.3.8.2 "Data", 8.3.8.3 "DataFrag", 8.3.8.4 "Gap" and 8.3.8.6
 -- "Heartbeat". Acts are those of a recording, by datagram and then by place.
-use Rattle.std.specs.Prelude.{ℕ, pos, Bool, true, false, ◌==◌, ◌&&◌, ◌||◌, nat_lt, if◌then◌else◌, List, filter, map, Option, Some, None, is_some, not, unwrap_or}
+use Rattle.std.specs.Prelude.{ℕ, pos, Bool, true, false, ◌≡◌, ◌==◌, ◌&&◌, ◌||◌, nat_lt, if◌then◌else◌, List, filter, map, Option, Some, None, is_some, not, unwrap_or}
 use Rattle.std.specs.List.{find, last_or}
 use Rattle.std.specs.Option.{option_map}
 use Rattle.std.specs.Str.{bytes_eq}
@@ -178,3 +178,8 @@ first_sent writer reader n acts = option_map (sent_at writer reader n) (first_se
 abbrev pub other_sent : Guid → Guid → ℕ → List placed.PlacedValue → Option SentValue
 other_sent writer reader n acts =
     option_map (sent_at writer reader n) (other_sending writer reader n (payload_at writer reader n (first_sending writer reader n acts)) acts)
+
+-- it is what these acts send for n at first, and what the first of them sends that has another payload
+pub record AreSent (writer reader : Guid) (n : ℕ) (acts : List placed.PlacedValue) (first other : Option SentValue) : Type 0 where
+  pub first_is : first ≡ first_sent writer reader n acts
+  pub other_is : other ≡ other_sent writer reader n acts

@@ -120,6 +120,13 @@ missed_at writer reader n acts asking =
       is_sent = list_any (brings writer reader n) acts;
     }
 
+-- it is a number that is asked for last at a place, by these acts of the writer
+pub record IsMissedBy (writer reader : Guid) (asked : Location) (acts : List placed.PlacedValue) (missed : FirstMissed) : Type 0 where
+  pub asked_is : missed.asked ≡ asked
+  pub again : missed.again ≡ again_behind missed.asked writer reader missed.number acts
+  pub gone : missed.gone ≡ gone_behind missed.asked writer reader missed.number acts
+  pub sent : missed.is_sent ≡ list_any (brings writer reader missed.number) acts
+
 -- the same of a number, if there is one
 abbrev pub missed_by : Guid → Guid → List placed.PlacedValue → Option ℕ → Option FirstMissed
 missed_by writer reader acts None = None

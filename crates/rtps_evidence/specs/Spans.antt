@@ -101,6 +101,11 @@ lesser_of None other = other
 lesser_of (Some one) None = Some one
 lesser_of (Some one) (Some other) = Some (min one other)
 
+-- there is a number, and it is below this one
+abbrev pub is_below : ℕ → Option ℕ → Bool
+is_below end None = false
+is_below end (Some number) = nat_lt number end
+
 -- a row begins with the least number that is for the reader, from the least one that may be owed on; with that one where none is
 pub record IsFirstOwed (owed : ℕ) (place : Location) (pair : Pair) (acts : List placed.PlacedValue) (number : ℕ) : Type 0 where
   pub least : Option ℕ

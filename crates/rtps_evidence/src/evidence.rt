@@ -9,27 +9,23 @@ ghost use Rattle.rtps_audit.specs.Speech as speech;
 ghost use Rattle.rtps_coverage.specs.Stretches as stretches;
 ghost use Rattle.rtps_fragments.specs.Hearing as hearing;
 
-use crate::acknowledgement::{Claim, find_acknowledgement};
+use crate::acknowledgement::Claim;
+use crate::case::Case;
+use crate::docket::Docket;
+use crate::ear::hear_all;
 use crate::exchange::{Exchange, Extent};
-use crate::excused::missed_of;
 use crate::first_missed::FirstMissed;
-use crate::grounds::{Grounds, grounds_kept, grounds_of};
-use crate::heard::Heard;
+use crate::grounds::{Grounds, grounds_kept};
+use crate::hearer::Hearer;
 use crate::in_span::InSpan;
 use crate::judgement::{Judgement, verdict_of};
 use crate::kinds::LostNumbers;
 use crate::last_announcement::Announcement;
-use crate::ledger::Ledger;
-use crate::missed::count_missed;
 use crate::not_received::NotReceived;
-use crate::other_side::{Arrivals, Sides};
-use crate::outcome::Unreceived;
-use crate::received::count_received;
-use crate::spanned::Spanned;
+use crate::other_side::Sides;
 use crate::times::Times;
 use bumpalo::Bump;
 use rtps_audit::{Index, Said, Verdict};
-use rtps_coverage::rising::rising;
 use rtps_discovery::Pair;
 use rtps_fragments::laws::{pairs_are_heard_without_fragments, verdicts_stay_without_fragments};
 use rtps_fragments::{have_fragments, heard_said};
@@ -106,6 +102,7 @@ impl<'a> Evidence<'a> {
     ghost use Rattle.rtps_evidence.specs.Kinds as kinds;
     ghost use Rattle.rtps_evidence.specs.OtherSide as other_side;
     ghost use Rattle.rtps_evidence.specs.Spans as spans;
+    ghost use Rattle.rtps_evidence.specs.Together as together;
 
     /// The evidence of an index's recording for a writer and a reader, any two GUIDs, by the writer's numbers from `from` on, and by what the
     /// reader hears. Payloads of a conflict that the reader put together have their octets in the arena. `Memory` is answered where what is kept
@@ -131,36 +128,35 @@ impl<'a> Evidence<'a> {
             in_spans: false,
         };
         let judgement = Judgement::of(index, pair, &[], &extent);
-        let found = Evidence::of_judged(alloc, &sides, judgement)?;
+        let docket = Docket::of(alloc, &sides, judgement)?;
+        let found = Evidence::of_docket(alloc, &sides, &docket)?;
         Ok(found.evidence)
     }
 
-    /// The evidence for a judgement. `Memory` as of [`Evidence::of_from`].
-    pub(crate) fn of_judged(
+    /// The evidence of one pair. `Memory` as of [`Evidence::of_from`].
+    pub(crate) fn of_docket(
         alloc: Global,
         sides: &Sides<'_, 'a, '_, '_>,
-        judgement: Judgement,
+        docket: &Docket,
     ) -> Result<Found<'a>, Memory>
-        ensures shown { (intake : intake.Intake) (beside : other_side.Beside) → other_side.AreSides intake beside sides.now
-            → IfSome judgement.known (evidence_spec.IsVerdictIn judgement.span judgement.pair intake.acts)
-            → IfOk result (λ found. evidence_spec.IsShown (other_side.is_there intake.acts beside.other judgement.pair) judgement.span.from (spans.since_of judgement.span) judgement.pair (spans.heard_in judgement.span judgement.pair intake.acts) found.evidence) }
-        ensures beside { (intake : intake.Intake) (beside : other_side.Beside) → other_side.AreSides intake beside sides.now
-            → IfSome judgement.known (evidence_spec.IsVerdictIn judgement.span judgement.pair intake.acts)
-            → IfOk result (λ found. evidence_spec.IsBeside judgement.in_spans beside judgement.span judgement.pair intake.acts (spans.heard_in judgement.span judgement.pair intake.acts) found.evidence.in_span
-            × kinds.IsLostIn judgement.in_spans beside judgement.span judgement.pair intake.acts (spans.heard_in judgement.span judgement.pair intake.acts) (kinds.lost_value found.lost)) }
+        ensures { (setting : together.Setting) → together.AreSidesIn setting sides.now → together.IsDocket setting docket.now
+            → IfOk result (together.IsFound setting docket.now.judgement.pair) }
     {
-        let arrivals = Arrivals::of(alloc, sides, judgement.pair)?;
         let exchange = Exchange {
-            pair: judgement.pair,
-            span: judgement.span,
-            in_spans: judgement.in_spans,
-            said: Said::until(sides.index, judgement.pair, judgement.span.until),
-            way: arrivals.way,
-            is_held: arrivals.is_held,
-            there: &arrivals.numbers,
+            pair: docket.judgement.pair,
+            span: docket.judgement.span,
+            in_spans: docket.judgement.in_spans,
+            said: Said::until(
+                sides.index,
+                docket.judgement.pair,
+                docket.judgement.span.until,
+            ),
+            way: docket.arrivals.way,
+            is_held: docket.arrivals.is_held,
+            there: &docket.arrivals.numbers,
             times: sides.times,
         };
-        let found = Evidence::of_said(alloc, sides.arena, &exchange, judgement.known)?;
+        let found = Evidence::of_said(alloc, sides.arena, &exchange, docket.judgement.known)?;
         Ok(found)
     }
 
@@ -252,44 +248,13 @@ impl<'a> Evidence<'a> {
             → IfOk result (λ found. evidence_spec.IsBeside exchange.now.in_spans beside exchange.now.span exchange.now.pair all recording found.evidence.in_span
             × kinds.IsLostIn exchange.now.in_spans beside exchange.now.span exchange.now.pair all recording (kinds.lost_value found.lost)) }
     {
-        let answers = exchange.said.answers;
-        let mut heard = Heard::of(alloc, exchange)?;
-        let asked = heard.announced.asked(exchange.span.from);
-        let mut lacking = heard.numbers.lacking(alloc, answers, &asked)?;
-        let mut lacking = rising(alloc, &mut lacking)?;
-        let ledger = Ledger::of(alloc, exchange, &lacking)?;
-        let mut unmet = ledger.unmet(alloc)?;
-        let unmet = rising(alloc, &mut unmet)?;
-        let mut missed = missed_of(alloc, exchange, &unmet, &asked)?;
-        let unreceived = Unreceived {
-            numbers: &lacking,
-            unmet: &unmet,
-            missed: &missed,
-            ledger: &ledger,
-            heard: &heard,
-        };
-        let spanned = Spanned::of(alloc, exchange, unreceived, &asked)?;
-        let missed = count_missed(alloc, &mut missed, exchange, &asked)?;
-        let received = count_received(&mut lacking, exchange, &asked)?;
-        let amounts = heard.numbers.amounts(&asked)?;
-        let evidence = Evidence {
-            verdict,
-            announcement: heard.announced.first_from(exchange.span.from),
-            acknowledgement: find_acknowledgement(answers, exchange.span.from),
-            payloads: amounts.payloads,
-            gone: amounts.gone,
-            untold: amounts.untold,
-            received: received.count,
-            not_received: received.not_received,
-            missed: missed.count,
-            first_missed: missed.first,
-            grounds: grounds_of(exchange, &heard.asked, &verdict),
-            in_span: spanned.in_span,
-        };
-        Ok(Found {
-            evidence,
-            lost: spanned.lost,
-        })
+        let acts = exchange.said.acts;
+        let mut hearer = Hearer::new(alloc, exchange, verdict)?;
+        hear_all(&mut hearer, acts)?;
+        let mut case = Case::of(alloc, hearer)?;
+        hear_all(&mut case, acts)?;
+        let found = case.found(alloc)?;
+        Ok(found)
     }
 
     /// The evidence of an index's recording for a writer and a reader, any two GUIDs, by all numbers, as [`Evidence::of_from`] finds it.

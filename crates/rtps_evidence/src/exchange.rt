@@ -38,6 +38,15 @@ pub(crate) struct Exchange<'s, 'a> {
 }
 
 impl<'s, 'a> Exchange<'s, 'a> {
+    pub(crate) fn copied(&self) -> Exchange<'s, 'a>
+        ensures { result ≡ self.now }
+    {
+        Exchange {
+            pair: self.pair,
+            ..*self
+        }
+    }
+
     /// The two, and where the reader is there.
     pub(crate) fn listener(&self) -> Listener
         ensures pair { result.pair ≡ self.now.pair }

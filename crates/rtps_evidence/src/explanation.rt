@@ -1,17 +1,23 @@
-ghost use Rattle.std.specs.Prelude.{◌≡◌, map, All, IfOk};
+ghost use Rattle.std.specs.Prelude.{◌≡◌, ◌<◌, ◌≤◌, ◌++◌, ◌∷◌, [], length, map, All, IfOk, List, OnOk};
 ghost use Rattle.rtps_discovery.specs.Directory as directory_spec;
+ghost use Rattle.rtps_discovery.specs.declared.matching.Pair.{Pair as PairValue};
 ghost use Rattle.rtps_audit.specs.Intake as intake;
 ghost use Rattle.rtps_audit.specs.Report as report;
 ghost use Rattle.rtps_evidence.specs.Explanation as explanation;
 ghost use Rattle.rtps_evidence.specs.Kinds as kinds;
 ghost use Rattle.rtps_evidence.specs.OtherSide as other_side;
+ghost use Rattle.rtps_evidence.specs.Together as together;
 
-use crate::evidence::Evidence;
+use crate::case::Case;
+use crate::docket::Docket;
+use crate::evidence::{Evidence, Found};
 use crate::exchange::Extent;
 use crate::judgement::Judgement;
 use crate::kinds::LostNumbers;
+use crate::leaving_ear::LeavingEar;
 use crate::other_side::Sides;
 use crate::times::Times;
+use crate::together::{are_plain, heard_together};
 use bumpalo::Bump;
 use rtps_audit::{Counts, Index, Row, Watch};
 use rtps_discovery::laws::one_map;
@@ -82,10 +88,128 @@ fn explanation_of<'a>(
     }
 }
 
+impl<'a> ExplainedRows<'a> {
+    /// Adds the row of one pair more. After `Memory` they are of no use.
+    fn add(&mut self, directory: &Directory<'a>, pair: Pair, found: Found<'a>) -> Result<(), Memory>
+        ensures { OnOk result ((setting : together.Setting) (pairs : List PairValue) → directory_spec.IsMapOf (intake.acts_together setting.intake.announcing) directory.now
+            → together.AreRows setting pairs self.old → together.IsFound setting pair found.entry → together.AreRows setting (pairs ++ pair ∷ []) self.new) }
+    {
+        // What an index took in announces one directory.
+        one_map();
+        let Found { evidence, lost } = found;
+        self.rows
+            .push(explanation_of(directory, pair, evidence, self.rows.len()))?;
+        self.lost.push(lost)?;
+        Ok(())
+    }
+
+    /// Adds the rows of pairs, each judged alone. After `Memory` they are of no use.
+    fn add_alone(
+        &mut self,
+        alloc: Global,
+        sides: &Sides<'_, 'a, '_, '_>,
+        dockets: &[Docket],
+    ) -> Result<(), Memory>
+        ensures { OnOk result ((setting : together.Setting) (pairs : List PairValue) → together.AreSidesIn setting sides.now → All (together.IsDocket setting) dockets.now
+            → together.AreRows setting pairs self.old → together.AreRows setting (pairs ++ map (λ docket. docket.judgement.pair) dockets.now) self.new) }
+    {
+        let directory = sides.index.directory();
+        for docket in dockets {
+            let found = Evidence::of_docket(alloc, sides, docket)?;
+            self.add(directory, docket.judgement.pair, found)?;
+        }
+        Ok(())
+    }
+
+    /// Adds the rows of cases whose acts are all heard again. After `Memory` they are of no use.
+    fn add_cases(
+        &mut self,
+        alloc: Global,
+        directory: &Directory<'a>,
+        cases: Vec<LeavingEar<Case<'_, 'a>>>,
+    ) -> Result<(), Memory>
+        ensures { OnOk result ((setting : together.Setting) (pairs : List PairValue) → directory_spec.IsMapOf (intake.acts_together setting.intake.announcing) directory.now
+            → All (together.IsClosed setting) cases.entry.items
+            → together.AreRows setting pairs self.old → together.AreRows setting (pairs ++ map together.case_pair cases.entry.items) self.new) }
+    {
+        for case in cases {
+            let pair = case.ear.brief.exchange.pair;
+            let found = case.ear.found(alloc)?;
+            self.add(directory, pair, found)?;
+        }
+        Ok(())
+    }
+
+    /// Adds the rows of pairs: of one writer and without fragments together, and else each alone. After `Memory` they are of no use.
+    fn add_dockets(
+        &mut self,
+        alloc: Global,
+        sides: &Sides<'_, 'a, '_, '_>,
+        dockets: &[Docket],
+    ) -> Result<(), Memory>
+        ensures { OnOk result ((setting : together.Setting) (pairs : List PairValue) → together.AreSidesIn setting sides.now → All (together.IsDocket setting) dockets.now
+            → together.AreRows setting pairs self.old → together.AreRows setting (pairs ++ map (λ docket. docket.judgement.pair) dockets.now) self.new) }
+    {
+        if dockets.is_empty() {
+            return Ok(());
+        }
+        let writer = dockets[0].judgement.pair.writer;
+        if !are_plain(sides.index, writer, dockets) {
+            return self.add_alone(alloc, sides, dockets);
+        }
+        let acts = sides.index.acts_of(writer);
+        let cases = heard_together(alloc, sides, dockets, acts)?;
+        self.add_cases(alloc, sides.index.directory(), cases)?;
+        Ok(())
+    }
+}
+
+/// The first place behind this one whose pair has another writer; the end, where none has.
+fn writer_end(pairs: &[Pair], start: usize) -> usize
+    requires { start < length pairs.now }
+    ensures onward { start < result }
+    ensures within { result ≤ length pairs.now }
+{
+    let writer = pairs[start].writer;
+    for place in start + 1..pairs.len() {
+        if pairs[place].writer != writer {
+            return place;
+        }
+    }
+    pairs.len()
+}
+
+/// What pairs are judged by, beside the recordings.
+#[derive(Clone, Copy)]
+struct Basis<'k> {
+    known: &'k [Row],
+    extent: Extent,
+}
+
+/// The dockets of pairs.
+fn dockets_of(
+    alloc: Global,
+    sides: &Sides<'_, '_, '_, '_>,
+    basis: &Basis<'_>,
+    pairs: &[Pair],
+) -> Result<Vec<Docket>, Memory>
+    ensures pairs { IfOk result (λ dockets. map (λ docket. docket.judgement.pair) dockets.items ≡ pairs.now) }
+    ensures dockets { (setting : together.Setting) → together.AreSidesIn setting sides.now → setting.spans ≡ basis.now.extent.in_spans → setting.from ≡ basis.now.extent.from
+        → All (report.IsJudgedFrom setting.from setting.intake.acts) basis.now.known.now → IfOk result (λ dockets. All (together.IsDocket setting) dockets.items) }
+{
+    let mut dockets = Vec::with_capacity(alloc, pairs.len())?;
+    for pair in pairs {
+        let judgement = Judgement::of(sides.index, *pair, basis.known, &basis.extent);
+        let docket = Docket::of(alloc, sides, judgement)?;
+        dockets.push(docket)?;
+    }
+    Ok(dockets)
+}
+
 /// Explains each of these pairs, of whatever writers and readers, in their order, by the numbers of an extent, as [`explain_index`] explains
-/// those of its report. `known` are rows by the same numbers and the acts as they are sent: what they say of pairs without fragments need not be
-/// found again. They are looked through fastest where they are in order. It tells how far it is. `Memory` is answered where what is kept cannot
-/// grow.
+/// those of its report. Pairs of one writer that stand together are judged together, and then it tells how far it is. `known` are rows by the
+/// same numbers and the acts as they are sent: what they say of pairs without fragments need not be found again. They are looked through fastest
+/// where they are in order. `Memory` is answered where what is kept cannot grow.
 pub fn explain_pairs<'a, P: Watch>(
     alloc: Global,
     sides: &Sides<'_, 'a, '_, '_>,
@@ -98,19 +222,20 @@ pub fn explain_pairs<'a, P: Watch>(
         → All (report.IsJudgedFrom extent.from intake.acts) known.now
         → IfOk result (λ found. explanation.AreExplained extent.in_spans extent.from beside intake pairs.now found.rows.items (map kinds.lost_value found.lost.items)) }
 {
-    // What an index took in announces one directory.
-    one_map();
-    let directory = sides.index.directory();
-    let mut rows = Vec::with_capacity(alloc, pairs.len())?;
-    let mut lost = Vec::with_capacity(alloc, pairs.len())?;
-    for pair in pairs {
-        let judgement = Judgement::of(sides.index, *pair, known, &extent);
-        let found = Evidence::of_judged(alloc, sides, judgement)?;
-        rows.push(explanation_of(directory, *pair, found.evidence, rows.len()))?;
-        lost.push(found.lost)?;
-        watch.explained(rows.len(), pairs.len());
+    let basis = Basis { known, extent };
+    let rows = Vec::with_capacity(alloc, pairs.len())?;
+    let lost = Vec::with_capacity(alloc, pairs.len())?;
+    let mut explained = ExplainedRows { rows, lost };
+    let mut start = 0;
+    'writers: while start < pairs.len() {
+        let end = writer_end(pairs, start);
+        let run = &pairs[start..end];
+        let dockets = dockets_of(alloc, sides, &basis, run)?;
+        explained.add_dockets(alloc, sides, &dockets)?;
+        watch.explained(end, pairs.len());
+        start = end;
     }
-    Ok(ExplainedRows { rows, lost })
+    Ok(explained)
 }
 
 /// The pairs of rows.

@@ -1,5 +1,4 @@
-ghost use Rattle.std.specs.Prelude.{◌≡◌, ◌<◌, ◌^◌, map, List, Some};
-ghost use Rattle.std.specs.List.{list_any};
+ghost use Rattle.std.specs.Prelude.{◌≡◌, ◌<◌, ◌^◌, ◌++◌, ◌∷◌, [], map, List, Some};
 ghost use Rattle.std.specs.Option.{option_map};
 ghost use Rattle.rtps_receiver.specs.Values as values;
 ghost use Rattle.rtps_audit.specs.Placed as placed_spec;
@@ -40,6 +39,24 @@ fn asks(placed: &Placed<'_>, pair: Pair, number: u64) -> bool
     placed.act.said().lacked.has(number)
 }
 
+/// Where the last act stands by which the pair's reader asks its writer for the number, with one act more.
+pub(crate) fn asking_with(
+    last: Option<Location>,
+    placed: &Placed<'_>,
+    pair: Pair,
+    number: u64,
+) -> Option<Location>
+    requires { number < 2 ^ 63 }
+    ensures { (acts : List placed_spec.PlacedValue) → last ≡ option_map locations.location_of (locations.find_last (missed_spec.asks_for pair.writer pair.reader number) acts)
+        → result ≡ option_map locations.location_of (locations.find_last (missed_spec.asks_for pair.writer pair.reader number) (acts ++ placed_spec.placed_value placed.now ∷ [])) }
+{
+    if asks(placed, pair, number) {
+        Some(location_of(placed))
+    } else {
+        last
+    }
+}
+
 /// Where the last of these acts stands by which the pair's reader asks its writer for the number.
 fn last_asking(acts: &[Placed<'_>], pair: Pair, number: u64) -> Option<Location>
     requires { number < 2 ^ 63 }
@@ -47,9 +64,7 @@ fn last_asking(acts: &[Placed<'_>], pair: Pair, number: u64) -> Option<Location>
 {
     let mut last = None;
     for placed in acts {
-        if asks(placed, pair, number) {
-            last = Some(location_of(placed));
-        }
+        last = asking_with(last, placed, pair, number);
     }
     last
 }
@@ -62,46 +77,62 @@ fn withdraws_behind(placed: &Placed<'_>, pair: Pair, number: u64, place: Locatio
     is_behind(Some(place), placed) && withdraws(placed, pair, number)
 }
 
-/// The first of these acts, behind a place, by which the reader hears that the number will not come.
-fn first_gone_behind(
-    acts: &[Placed<'_>],
-    pair: Pair,
-    number: u64,
-    place: Location,
-) -> Option<Teller>
-    requires { number < 2 ^ 63 }
-    ensures { result ≡ missed_spec.gone_behind place pair.writer pair.reader number (map placed_spec.placed_value acts.now) }
+/// Whether an act behind a place brings the reader the number.
+fn brings_behind(placed: &Placed<'_>, pair: Pair, number: u64, place: Location) -> bool
+    ensures { result ≡ missed_spec.brings_behind (Some place) pair.writer pair.reader number (placed_spec.placed_value placed.now) }
 {
-    for placed in acts {
-        if withdraws_behind(placed, pair, number, place) {
-            return Some(teller_at(placed));
-        }
-    }
-    None
+    is_behind(Some(place), placed) && brings(placed, pair, number)
 }
 
-/// Where the first of these acts stands, behind a place, that brings the reader the number.
-fn first_again(acts: &[Placed<'_>], pair: Pair, number: u64, place: Location) -> Option<Location>
-    ensures { result ≡ missed_spec.again_behind place pair.writer pair.reader number (map placed_spec.placed_value acts.now) }
-{
-    for placed in acts {
-        if is_behind(Some(place), placed) && brings(placed, pair, number) {
+impl FirstMissed {
+    ghost use Rattle.rtps_evidence.specs.declared.location.Location.{Location as Place};
+
+    /// Where the first act behind the last asking stands that brings the reader the number, with one act more of the writer.
+    fn again_with(&self, placed: &Placed<'_>, pair: Pair) -> Option<Location>
+        ensures { (acts : List placed_spec.PlacedValue) → self.now.again ≡ missed_spec.again_behind self.now.asked pair.writer pair.reader self.now.number acts
+            → result ≡ missed_spec.again_behind self.now.asked pair.writer pair.reader self.now.number (acts ++ placed_spec.placed_value placed.now ∷ []) }
+    {
+        if self.again.is_some() {
+            return self.again;
+        }
+        if brings_behind(placed, pair, self.number, self.asked) {
             return Some(location_of(placed));
         }
+        self.again
     }
-    None
-}
 
-/// Whether one of these acts brings the reader the number.
-fn is_sent(acts: &[Placed<'_>], pair: Pair, number: u64) -> bool
-    ensures { result ≡ list_any (missed_spec.brings pair.writer pair.reader number) (map placed_spec.placed_value acts.now) }
-{
-    for placed in acts {
-        if brings(placed, pair, number) {
-            return true;
+    /// The first act behind the last asking by which the reader hears that the number will not come, with one act more.
+    fn gone_with(&self, placed: &Placed<'_>, pair: Pair) -> Option<Teller>
+        requires { self.now.number < 2 ^ 63 }
+        ensures { (acts : List placed_spec.PlacedValue) → self.now.gone ≡ missed_spec.gone_behind self.now.asked pair.writer pair.reader self.now.number acts
+            → result ≡ missed_spec.gone_behind self.now.asked pair.writer pair.reader self.now.number (acts ++ placed_spec.placed_value placed.now ∷ []) }
+    {
+        if self.gone.is_some() {
+            return self.gone;
         }
+        if withdraws_behind(placed, pair, self.number, self.asked) {
+            return Some(teller_at(placed));
+        }
+        self.gone
     }
-    false
+
+    /// Is told the next act of the writer.
+    pub(crate) fn hear(&mut self, placed: &Placed<'_>, pair: Pair)
+        requires { self.old.number < 2 ^ 63 }
+        ensures number { self.new.number ≡ self.old.number }
+        ensures missed { (asked : Place) (acts : List placed_spec.PlacedValue) → missed_spec.IsMissedBy pair.writer pair.reader asked acts self.old
+            → missed_spec.IsMissedBy pair.writer pair.reader asked (acts ++ placed_spec.placed_value placed.now ∷ []) self.new }
+    {
+        let again = self.again_with(placed, pair);
+        let gone = self.gone_with(placed, pair);
+        *self = FirstMissed {
+            number: self.number,
+            asked: self.asked,
+            again,
+            gone,
+            is_sent: self.is_sent || brings(placed, pair, self.number),
+        };
+    }
 }
 
 /// The number as one that is missed; None where the pair's reader never asks its writer for it.
@@ -111,15 +142,18 @@ pub(crate) fn first_missed_at(exchange: &Exchange<'_, '_>, number: u64) -> Optio
         → result ≡ missed_spec.missed_by exchange.now.pair.writer exchange.now.pair.reader (placed_spec.placed_in recording) (Some number) }
 {
     let pair = exchange.pair;
-    let acts = exchange.said.acts;
     let Some(asked) = last_asking(exchange.said.asks, pair, number) else {
         return None;
     };
-    Some(FirstMissed {
+    let mut missed = FirstMissed {
         number,
         asked,
-        again: first_again(acts, pair, number, asked),
-        gone: first_gone_behind(acts, pair, number, asked),
-        is_sent: is_sent(acts, pair, number),
-    })
+        again: None,
+        gone: None,
+        is_sent: false,
+    };
+    for placed in exchange.said.acts {
+        missed.hear(placed, pair);
+    }
+    Some(missed)
 }

@@ -11,7 +11,7 @@ use crate::acknowledgement::{Claim, find_claim};
 use crate::exchange::Exchange;
 use crate::location::Location;
 use crate::questions::Questions;
-use crate::sent_payload::{Sent, first_sent, other_sent, sent_kept};
+use crate::sent_payload::{Sent, SentPayloads, sent_kept};
 use crate::teller::{Teller, find_teller};
 use bumpalo::Bump;
 use rtps_audit::{Placed, Verdict};
@@ -124,9 +124,10 @@ fn conflict_grounds<'a>(acts: &[Placed<'a>], pair: Pair, number: u64) -> Grounds
         → grounds_spec.grounds_value result ≡ grounds_spec.GroundsValue.ConflictGrounds (locations.first_sent pair.writer pair.reader number (placed.placed_in recording))
         (locations.other_sent pair.writer pair.reader number (placed.placed_in recording)) }
 {
+    let sent = SentPayloads::of(acts, pair, number);
     Grounds::Conflict {
-        first: first_sent(acts, pair, number),
-        other: other_sent(acts, pair, number),
+        first: sent.first,
+        other: sent.other,
     }
 }
 

@@ -1,11 +1,10 @@
-ghost use Rattle.std.specs.Prelude.{◌+◌, ◌<◌, ◌^◌, ◌++◌, ◌∷◌, [], length, map, IfOk, OnOk, List};
+ghost use Rattle.std.specs.Prelude.{◌+◌, ◌<◌, ◌^◌, ◌++◌, ◌∷◌, [], length, OnOk, List};
 ghost use Rattle.rtps_audit.specs.Placed as placed_spec;
 ghost use Rattle.rtps_coverage.specs.Rising as rising;
 ghost use Rattle.rtps_evidence.specs.Claimed as claimed;
 ghost use Rattle.rtps_evidence.specs.Heard as heard;
 
 use crate::amount::HeardNumbers;
-use crate::claimed::claims_of;
 use crate::exchange::Exchange;
 use crate::last_announcement::Announced;
 use crate::questions::Questions;
@@ -30,7 +29,7 @@ pub(crate) struct Heard<'s> {
 
 impl<'s> Heard<'s> {
     /// The writer said nothing yet.
-    fn new(alloc: Global, exchange: &Exchange<'s, '_>) -> Heard<'s>
+    pub(crate) fn new(alloc: Global, exchange: &Exchange<'s, '_>) -> Heard<'s>
         ensures { heard.IsHeard exchange.now [] result }
     {
         Heard {
@@ -42,7 +41,7 @@ impl<'s> Heard<'s> {
     }
 
     /// Is told an act of the writer, where the answers claim so far up to each datagram. After `Memory` it is of no use.
-    fn hear(
+    pub(crate) fn hear(
         &mut self,
         placed: &Placed<'_>,
         exchange: &Exchange<'_, '_>,
@@ -57,17 +56,5 @@ impl<'s> Heard<'s> {
         self.asked.hear(placed, exchange.pair);
         let claimed = end_at(claims, placed.datagram as u64);
         self.numbers.note(placed, exchange.pair, claimed)
-    }
-
-    /// Of a pair, by all that it said.
-    pub(crate) fn of(alloc: Global, exchange: &Exchange<'s, '_>) -> Result<Heard<'s>, Memory>
-        ensures { IfOk result (heard.IsHeard exchange.now (map placed_spec.placed_value exchange.now.said.acts.now)) }
-    {
-        let claims = claims_of(alloc, exchange.said.answers)?;
-        let mut heard = Heard::new(alloc, exchange);
-        for placed in exchange.said.acts {
-            heard.hear(placed, exchange, &claims)?;
-        }
-        Ok(heard)
     }
 }

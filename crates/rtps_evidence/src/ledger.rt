@@ -36,7 +36,7 @@ pub(crate) struct Ledger {
 
 impl Ledger {
     /// The writer said nothing yet.
-    fn new(
+    pub(crate) fn new(
         alloc: Global,
         exchange: &Exchange<'_, '_>,
         lacking: &[Stretch],
@@ -51,8 +51,8 @@ impl Ledger {
         })
     }
 
-    /// Is told an act of the writer. After `Memory` it is of no use.
-    fn hear(
+    /// Is told an act of the writer. Where the reader lacks nothing, no act makes a difference. After `Memory` it is of no use.
+    pub(crate) fn hear(
         &mut self,
         placed: &Placed<'_>,
         exchange: &Exchange<'_, '_>,
@@ -62,29 +62,13 @@ impl Ledger {
         ensures { OnOk result ((acts : List placed_spec.PlacedValue) → ledger.Stands exchange.now (stretches.stretches_have lacking.now) acts self.old
             → ledger.Stands exchange.now (stretches.stretches_have lacking.now) (acts ++ placed_spec.placed_value placed.now ∷ []) self.new) }
     {
+        if lacking.is_empty() {
+            return Ok(());
+        }
         let listener = exchange.listener();
         note_bringing(&mut self.requests, placed, &listener)?;
         push_brought(&mut self.brought, placed, &listener, lacking)?;
         self.silent.follow(placed, exchange)
-    }
-
-    /// Of a pair, by all that it said. Where the reader lacks nothing, no act makes a difference.
-    pub(crate) fn of(
-        alloc: Global,
-        exchange: &Exchange<'_, '_>,
-        lacking: &[Stretch],
-    ) -> Result<Ledger, Memory>
-        requires { rising.AreRising lacking.now }
-        ensures { IfOk result (ledger.Stands exchange.now (stretches.stretches_have lacking.now) (map placed_spec.placed_value exchange.now.said.acts.now)) }
-    {
-        let mut ledger = Ledger::new(alloc, exchange, lacking)?;
-        if lacking.is_empty() {
-            return Ok(ledger);
-        }
-        for placed in exchange.said.acts {
-            ledger.hear(placed, exchange, lacking)?;
-        }
-        Ok(ledger)
     }
 
     /// The numbers that the reader asks for in vain, of those that it lacks.

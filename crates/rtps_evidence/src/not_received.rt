@@ -1,4 +1,4 @@
-ghost use Rattle.std.specs.Prelude.{◌≡◌, ◌<◌, ◌^◌, map, nat_lt, List};
+ghost use Rattle.std.specs.Prelude.{◌≡◌, ◌<◌, ◌^◌, ◌++◌, ◌∷◌, [], map, nat_lt, List};
 ghost use Rattle.std.specs.List.{find};
 ghost use Rattle.rtps_receiver.specs.Values as values;
 ghost use Rattle.rtps_audit.specs.Placed as placed_spec;
@@ -26,6 +26,13 @@ pub struct NotReceived {
     pub acknowledged: Option<Location>,
 }
 
+/// A number, and the datagram in which an answer claims it first.
+#[derive(Clone, Copy)]
+pub(crate) struct ClaimedNumber {
+    pub(crate) number: u64,
+    pub(crate) datagram: u64,
+}
+
 /// The first of these answers that claims the number.
 fn first_claim(answers: &[Answer], number: u64) -> Option<Claim>
     ensures { result ≡ find (λ claim. nat_lt number (receiver_said.natural claim.below)) (map locations.claim_in answers.now) }
@@ -47,25 +54,47 @@ pub(crate) fn withdraws(placed: &Placed<'_>, pair: Pair, number: u64) -> bool
     said.gone.has(number)
 }
 
-/// Whether the reader hears that in a datagram before this one.
-fn withdraws_before(placed: &Placed<'_>, pair: Pair, number: u64, datagram: u64) -> bool
-    requires { number < 2 ^ 63 }
-    ensures { result ≡ received_spec.withdraws_before pair.writer pair.reader number datagram (placed_spec.placed_value placed.now) }
+/// Whether the reader hears that of a number in a datagram before the one in which it is claimed.
+fn withdraws_before(placed: &Placed<'_>, pair: Pair, claimed: ClaimedNumber) -> bool
+    requires { claimed.number < 2 ^ 63 }
+    ensures { result ≡ received_spec.withdraws_before pair.writer pair.reader claimed.number claimed.datagram (placed_spec.placed_value placed.now) }
 {
-    (placed.datagram as u64) < datagram && withdraws(placed, pair, number)
+    (placed.datagram as u64) < claimed.datagram && withdraws(placed, pair, claimed.number)
 }
 
-/// The first of these acts, in a datagram before that one, by which the reader hears that the number will not come.
-fn first_gone(acts: &[Placed<'_>], pair: Pair, number: u64, datagram: u64) -> Option<Teller>
-    requires { number < 2 ^ 63 }
-    ensures { result ≡ received_spec.gone_before pair.writer pair.reader number datagram (map placed_spec.placed_value acts.now) }
+/// The first act, in a datagram before the claim, by which the reader hears that the number will not come, with one act more.
+pub(crate) fn gone_with(
+    found: Option<Teller>,
+    placed: &Placed<'_>,
+    pair: Pair,
+    claimed: ClaimedNumber,
+) -> Option<Teller>
+    requires { claimed.number < 2 ^ 63 }
+    ensures { (acts : List placed_spec.PlacedValue) → found ≡ received_spec.gone_before pair.writer pair.reader claimed.number claimed.datagram acts
+        → result ≡ received_spec.gone_before pair.writer pair.reader claimed.number claimed.datagram (acts ++ placed_spec.placed_value placed.now ∷ []) }
 {
+    if found.is_some() {
+        return found;
+    }
+    if withdraws_before(placed, pair, claimed) {
+        return Some(teller_at(placed));
+    }
+    found
+}
+
+/// The first of these acts, in a datagram before the claim, by which the reader hears that the number will not come.
+fn first_gone(acts: &[Placed<'_>], pair: Pair, claimed: ClaimedNumber) -> Option<Teller>
+    requires { claimed.number < 2 ^ 63 }
+    ensures { result ≡ received_spec.gone_before pair.writer pair.reader claimed.number claimed.datagram (map placed_spec.placed_value acts.now) }
+{
+    let mut found = None;
     for placed in acts {
-        if withdraws_before(placed, pair, number, datagram) {
-            return Some(teller_at(placed));
+        found = gone_with(found, placed, pair, claimed);
+        if found.is_some() {
+            return found;
         }
     }
-    None
+    found
 }
 
 /// The number as one that is not received, and what keeps it from being so.
@@ -82,14 +111,13 @@ pub(crate) fn not_received_at(exchange: &Exchange<'_, '_>, number: u64) -> NotRe
             acknowledged: None,
         };
     };
+    let claimed = ClaimedNumber {
+        number,
+        datagram: claim.place.datagram,
+    };
     NotReceived {
         number,
-        gone: first_gone(
-            exchange.said.acts,
-            exchange.pair,
-            number,
-            claim.place.datagram,
-        ),
+        gone: first_gone(exchange.said.acts, exchange.pair, claimed),
         acknowledged: Some(claim.place),
     }
 }

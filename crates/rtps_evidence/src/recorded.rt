@@ -1,4 +1,4 @@
-ghost use Rattle.std.specs.Prelude.{ℕ, ◌≡◌, ◌-◌, ◌<◌, ◌^◌, map, max, IfOk};
+ghost use Rattle.std.specs.Prelude.{ℕ, ◌≡◌, ◌-◌, ◌<◌, ◌^◌, ◌++◌, ◌∷◌, [], map, max, IfOk, List, OnOk};
 ghost use Rattle.rtps_audit.specs.Delivery as delivery;
 ghost use Rattle.rtps_audit.specs.Index as index_spec;
 ghost use Rattle.rtps_audit.specs.Intake as intake;
@@ -63,6 +63,15 @@ fn number_sent(placed: &Placed<'_>, writer: Guid) -> u64
     }
 }
 
+/// The greatest of these numbers, or 0, with one act more.
+pub(crate) fn greatest_with(greatest: u64, placed: &Placed<'_>, writer: Guid) -> u64
+    ensures value { (acts : List placed_spec.PlacedValue) → greatest ≡ delivery.greatest (map (recorded_spec.number_sent writer) acts)
+        → result ≡ delivery.greatest (map (recorded_spec.number_sent writer) (acts ++ placed_spec.placed_value placed.now ∷ [])) }
+    ensures in_range { greatest < 2 ^ 63 → result < 2 ^ 63 }
+{
+    greatest.max(number_sent(placed, writer))
+}
+
 /// The greatest of these numbers, or 0.
 fn greatest_sent(acts: &[Placed<'_>], writer: Guid) -> u64
     ensures value { result ≡ delivery.greatest (map (recorded_spec.number_sent writer) (map placed_spec.placed_value acts.now)) }
@@ -70,9 +79,21 @@ fn greatest_sent(acts: &[Placed<'_>], writer: Guid) -> u64
 {
     let mut greatest = 0u64;
     for placed in acts {
-        greatest = greatest.max(number_sent(placed, writer));
+        greatest = greatest_with(greatest, placed, writer);
     }
     greatest
+}
+
+/// Adds the number of which the pair's reader hears a payload from its writer by an act. After `Memory` the numbers are of no use.
+pub(crate) fn note_sent(
+    sent: &mut Vec<Stretch>,
+    placed: &Placed<'_>,
+    pair: Pair,
+) -> Result<(), Memory>
+    ensures { OnOk result ((acts : List placed_spec.PlacedValue) (n : ℕ) → stretches.stretches_have sent.old.items n ≡ amount.is_sent pair.writer pair.reader acts n
+        → stretches.stretches_have sent.new.items n ≡ amount.is_sent pair.writer pair.reader (acts ++ placed_spec.placed_value placed.now ∷ []) n) }
+{
+    push_number(sent, said_to(placed, pair).told)
 }
 
 /// The numbers of which the pair's reader hears a payload from its writer by these acts.
@@ -85,7 +106,7 @@ pub(crate) fn sent_among(
 {
     let mut sent = Vec::new(alloc);
     for placed in acts {
-        push_number(&mut sent, said_to(placed, pair).told)?;
+        note_sent(&mut sent, placed, pair)?;
     }
     Ok(sent)
 }

@@ -1,5 +1,4 @@
-ghost use Rattle.std.specs.Prelude.{◌≡◌, IfOk, map};
-ghost use Rattle.std.specs.List.{find};
+ghost use Rattle.std.specs.Prelude.{◌≡◌, ◌++◌, ◌∷◌, [], IfOk, List, map};
 ghost use Rattle.std.specs.Option.{option_map};
 ghost use Rattle.rtps_wire.specs.Values as values;
 ghost use Rattle.rtps_audit.specs.Placed as placed_spec;
@@ -18,6 +17,15 @@ use rtps_wire::Payload;
 pub struct Sent<'a> {
     pub payload: Payload<'a>,
     pub place: Location,
+}
+
+/// The payloads that were sent for a number, as far as the acts of its writer have come.
+#[derive(Clone, Copy)]
+pub(crate) struct SentPayloads<'a> {
+    /// The first of all.
+    pub(crate) first: Option<Sent<'a>>,
+    /// The first that is another one.
+    pub(crate) other: Option<Sent<'a>>,
 }
 
 /// A payload, with its octets in an arena.
@@ -71,48 +79,60 @@ fn is_same(one: Payload<'_>, other: Payload<'_>) -> bool
     }
 }
 
-/// The first payload for the number by these acts.
-pub(crate) fn first_sent<'a>(acts: &[Placed<'a>], pair: Pair, number: u64) -> Option<Sent<'a>>
-    ensures { option_map locations.sent_value result ≡ locations.first_sent pair.writer pair.reader number (map placed_spec.placed_value acts.now) }
-{
-    for placed in acts {
-        if let Some(payload) = payload_for(placed, pair, number) {
-            return Some(Sent {
-                payload,
-                place: location_of(placed),
-            });
+impl<'a> SentPayloads<'a> {
+    ghost use Rattle.std.specs.Prelude.{ℕ};
+    ghost use Rattle.rtps_discovery.specs.declared.matching.Pair.{Pair as PairValue};
+
+    /// The writer said nothing yet.
+    fn none() -> SentPayloads<'a>
+        ensures { (pair : PairValue) (number : ℕ) → locations.AreSent pair.writer pair.reader number [] (option_map locations.sent_value result.first) (option_map locations.sent_value result.other) }
+    {
+        SentPayloads {
+            first: None,
+            other: None,
         }
     }
-    None
-}
 
-/// The first payload for the number by these acts that is another one than this.
-fn another_sent<'a>(
-    acts: &[Placed<'a>],
-    pair: Pair,
-    number: u64,
-    first: Payload<'_>,
-) -> Option<Sent<'a>>
-    ensures { option_map locations.sent_value result ≡ option_map (locations.sent_at pair.writer pair.reader number)
-        (find (λ placed. locations.differs (values.payload_value first.entry) (locations.payload_for pair.writer pair.reader number placed)) (map placed_spec.placed_value acts.now)) }
-{
-    for placed in acts {
-        if let Some(payload) = payload_for(placed, pair, number) {
-            if !is_same(first, payload) {
-                return Some(Sent {
-                    payload,
-                    place: location_of(placed),
-                });
+    /// The same with the next act of the writer.
+    pub(crate) fn with(&self, placed: &Placed<'a>, pair: Pair, number: u64) -> SentPayloads<'a>
+        ensures { (acts : List placed_spec.PlacedValue)
+            → locations.AreSent pair.writer pair.reader number acts (option_map locations.sent_value self.now.first) (option_map locations.sent_value self.now.other)
+            → locations.AreSent pair.writer pair.reader number (acts ++ placed_spec.placed_value placed.now ∷ []) (option_map locations.sent_value result.first) (option_map locations.sent_value result.other) }
+    {
+        if self.other.is_some() {
+            return *self;
+        }
+        let Some(payload) = payload_for(placed, pair, number) else {
+            return *self;
+        };
+        let place = location_of(placed);
+        let sent = Sent { payload, place };
+        let Some(first) = self.first else {
+            return SentPayloads {
+                first: Some(sent),
+                other: None,
+            };
+        };
+        if is_same(first.payload, payload) {
+            return *self;
+        }
+        SentPayloads {
+            first: self.first,
+            other: Some(sent),
+        }
+    }
+
+    /// By these acts of the writer.
+    pub(crate) fn of(acts: &[Placed<'a>], pair: Pair, number: u64) -> SentPayloads<'a>
+        ensures { locations.AreSent pair.writer pair.reader number (map placed_spec.placed_value acts.now) (option_map locations.sent_value result.first) (option_map locations.sent_value result.other) }
+    {
+        let mut sent = SentPayloads::none();
+        for placed in acts {
+            sent = sent.with(placed, pair, number);
+            if sent.other.is_some() {
+                return sent;
             }
         }
+        sent
     }
-    None
-}
-
-/// The first payload for the number by these acts that is another one than the first of all.
-pub(crate) fn other_sent<'a>(acts: &[Placed<'a>], pair: Pair, number: u64) -> Option<Sent<'a>>
-    ensures { option_map locations.sent_value result ≡ locations.other_sent pair.writer pair.reader number (map placed_spec.placed_value acts.now) }
-{
-    let first = first_sent(acts, pair, number)?;
-    another_sent(acts, pair, number, first.payload)
 }

@@ -1,17 +1,17 @@
-ghost use Rattle.std.specs.Prelude.{◌≡◌, ◌≤◌, ◌<◌, ◌^◌, map, IfSome};
-ghost use Rattle.std.specs.List.{before_first, find, list_any};
+ghost use Rattle.std.specs.Prelude.{ℕ, ◌≡◌, ◌≤◌, ◌<◌, ◌^◌, ◌++◌, ◌∷◌, [], filter, map, IfSome, List};
+ghost use Rattle.std.specs.List.{find, list_any};
 ghost use Rattle.std.specs.Option.{option_map};
 ghost use Rattle.rtps_receiver.specs.Said as said;
 ghost use Rattle.rtps_audit.specs.Index as index_spec;
 ghost use Rattle.rtps_audit.specs.Intake as intake;
 ghost use Rattle.rtps_audit.specs.Placed as placed_spec;
 ghost use Rattle.rtps_evidence.specs.Missed as missed;
+ghost use Rattle.rtps_evidence.specs.Newcomers as newcomers;
 ghost use Rattle.rtps_evidence.specs.Spans as spans;
 
-use crate::listener::{Listener, number_behind};
-use crate::location::{Location, is_before, is_behind, is_gap};
-use crate::said_to::said_to;
-use rtps_audit::{AnnouncedPlace, Answer, FirstAsked, Index, Placed, announced_number};
+use crate::location::{Location, is_behind};
+use crate::newcomer::{Newcomer, Owing, lesser};
+use rtps_audit::{AnnouncedPlace, Answer, FirstAsked, Index, Placed};
 use rtps_discovery::{Durability, Pair, leaves, leaving_writers};
 use rtps_ids::{Guid, SeqNum};
 use rtps_receiver::Numbers;
@@ -28,6 +28,16 @@ pub struct Span {
     pub from: FirstAsked,
     /// The row is by the datagrams before this one, in which the reader leaves; None where it does not.
     pub until: Option<u64>,
+}
+
+/// The span of a pair, as far as the acts of its writer have come.
+#[derive(Clone, Copy)]
+pub(crate) struct Spanning {
+    /// All but the number that it begins with, where there is a newcomer.
+    span: Span,
+    /// The reader, where it joins in the recording.
+    newcomer: Option<Newcomer>,
+    owing: Owing,
 }
 
 /// Whether an answer claims some number, before a place.
@@ -49,52 +59,6 @@ fn claims_before(answers: &[Answer], place: Location) -> bool
         }
     }
     false
-}
-
-/// The number that the writer announces by an act before a place, or 0.
-fn number_before(placed: &Placed<'_>, writer: Guid, place: Location) -> u64
-    ensures value { result ≡ spans.number_before place writer (placed_spec.placed_value placed.now) }
-    ensures in_range { result < 2 ^ 63 }
-{
-    if is_before(place, placed) {
-        announced_number(&placed.act, writer)
-    } else {
-        0
-    }
-}
-
-/// The greatest number that the writer announces by these acts before a place, or 0.
-fn greatest_before(acts: &[Placed<'_>], writer: Guid, place: Location) -> u64
-    ensures value { result ≡ spans.announced_before place writer (map placed_spec.placed_value acts.now) }
-    ensures in_range { result < 2 ^ 63 }
-{
-    let mut greatest = 0u64;
-    for placed in acts {
-        greatest = greatest.max(number_before(placed, writer, place));
-    }
-    greatest
-}
-
-/// The lesser of two numbers, where there are two.
-fn lesser(one: Option<u64>, other: Option<u64>) -> Option<u64>
-    ensures { result ≡ spans.lesser_of one other }
-{
-    match (one, other) {
-        (Some(one), Some(other)) => Some(one.min(other)),
-        (Some(one), None) => Some(one),
-        (None, other) => other,
-    }
-}
-
-/// The number of which an act behind the reader's joining brings a payload, or a fragment, if it is from `lo` on.
-fn brought_from(placed: &Placed<'_>, listener: &Listener, lo: u64) -> Option<u64>
-    ensures least { spans.IsLeastFrom (λ n. missed.brings_behind listener.now.since listener.now.pair.writer listener.now.pair.reader n (placed_spec.placed_value placed.now)) lo result }
-    ensures in_range { IfSome result (λ number. number < 2 ^ 63) }
-{
-    match number_behind(placed, listener) {
-        Some(number) => { if lo <= number { Some(number) } else { None } }
-        None => None,
-    }
 }
 
 /// The least of these numbers from `lo` on.
@@ -123,16 +87,18 @@ fn asked_from(placed: &Placed<'_>, pair: Pair, lo: u64) -> Option<u64>
     }
 }
 
-/// The least number from `lo` on that one of these acts brings behind the reader's joining.
-fn least_brought(acts: &[Placed<'_>], listener: &Listener, lo: u64) -> Option<u64>
-    ensures least { spans.IsLeastFrom (λ n. list_any (missed.brings_behind listener.now.since listener.now.pair.writer listener.now.pair.reader n) (map placed_spec.placed_value acts.now)) lo result }
-    ensures in_range { IfSome result (λ number. number < 2 ^ 63) }
+/// The least number from `lo` on that the pair's reader asks its writer for, with one act more of the reader.
+pub(crate) fn asked_with(
+    least: Option<u64>,
+    placed: &Placed<'_>,
+    pair: Pair,
+    lo: u64,
+) -> Option<u64>
+    ensures least { (acts : List placed_spec.PlacedValue) → spans.IsLeastFrom (λ n. list_any (missed.asks_for pair.writer pair.reader n) acts) lo least
+        → spans.IsLeastFrom (λ n. list_any (missed.asks_for pair.writer pair.reader n) (acts ++ placed_spec.placed_value placed.now ∷ [])) lo result }
+    ensures in_range { IfSome least (λ number. number < 2 ^ 63) → IfSome result (λ number. number < 2 ^ 63) }
 {
-    let mut least = None;
-    for placed in acts {
-        least = lesser(least, brought_from(placed, listener, lo));
-    }
-    least
+    lesser(least, asked_from(placed, pair, lo))
 }
 
 /// The least number from `lo` on that the pair's reader asks its writer for by one of these acts.
@@ -142,7 +108,7 @@ fn least_asked(acts: &[Placed<'_>], pair: Pair, lo: u64) -> Option<u64>
 {
     let mut least = None;
     for placed in acts {
-        least = lesser(least, asked_from(placed, pair, lo));
+        least = asked_with(least, placed, pair, lo);
     }
     least
 }
@@ -169,79 +135,17 @@ fn is_volatile(index: &Index<'_>, reader: Guid) -> bool
     }
 }
 
-/// One more than the greatest of these numbers; 0 where there is none.
-fn end_of(numbers: &Numbers<'_>) -> u64
-    ensures end { spans.IsEndOf (said.numbers_have numbers.now) result }
-    ensures in_range { result ≤ 2 ^ 63 }
-{
-    let mut end = 0;
-    'apart: while let Some(range) = numbers.range_from(end) {
-        end = range.end;
-    }
-    end
-}
-
-/// The same of the numbers that an act tells gone, where it is a GAP that the listener hears; 0 where it is none.
-fn gap_end(placed: &Placed<'_>, listener: &Listener) -> u64
-    ensures end { spans.IsEndOf (λ n. spans.gaps_behind listener.now.since listener.now.pair.writer listener.now.pair.reader n (placed_spec.placed_value placed.now)) result }
-    ensures in_range { result ≤ 2 ^ 63 }
-{
-    if is_behind(listener.since, placed) && is_gap(&placed.act.body) {
-        end_of(&said_to(placed, listener.pair).gone)
-    } else {
-        0
-    }
-}
-
-/// The same of the GAPs among these acts that the listener hears before it is sent anything.
-fn gone_end(acts: &[Placed<'_>], listener: &Listener) -> u64
-    ensures end { spans.IsEndOf (λ n. list_any (spans.gaps_behind listener.now.since listener.now.pair.writer listener.now.pair.reader n)
-        (before_first (missed.brings_some listener.now.since listener.now.pair.writer listener.now.pair.reader) (map placed_spec.placed_value acts.now))) result }
-    ensures in_range { result ≤ 2 ^ 63 }
-{
-    let mut end = 0u64;
-    for placed in acts {
-        if number_behind(placed, listener).is_some() {
-            return end;
-        }
-        end = end.max(gap_end(placed, listener));
-    }
-    end
-}
-
-/// The least number, from `from` on, that may be owed to a reader that joins at a place.
-fn owed_from(index: &Index<'_>, pair: Pair, place: Location, from: SeqNum) -> u64
-    ensures owed { (intake : intake.Intake) → index_spec.IsIndexBy intake index.now → spans.IsOwedFrom from place pair intake result }
-    ensures in_range { result ≤ 2 ^ 63 }
+/// The least number that is owed to a newcomer, which the writer's acts tell: the least that is for it, of those that may be owed.
+fn first_owed(index: &Index<'_>, newcomer: &Newcomer, owing: &Owing) -> u64
+    ensures first { (intake : intake.Intake) → index_spec.IsIndexBy intake index.now
+        → newcomers.IsOwing newcomer.now (filter (placed_spec.is_from newcomer.now.pair.writer) (placed_spec.placed_in intake.acts)) owing.now
+        → spans.IsFirstOwed (newcomers.owed_to newcomer.now owing.now) newcomer.now.place newcomer.now.pair (placed_spec.placed_in intake.acts) result }
     ensures positive { 1 ≤ result }
-{
-    let from = from.get().cast_unsigned();
-    let acts = index.acts_of(pair.writer);
-    let announced = greatest_before(acts, pair.writer, place);
-    let listener = Listener {
-        pair,
-        since: Some(place),
-    };
-    let gone = gone_end(acts, &listener);
-    if is_volatile(index, pair.reader) {
-        from.max(announced + 1).max(gone)
-    } else {
-        from
-    }
-}
-
-/// The least number from `owed` on that is for the reader, which joins at a place; `owed` where none is.
-fn first_owed(index: &Index<'_>, pair: Pair, place: Location, owed: u64) -> u64
-    requires { owed ≤ 2 ^ 63 }
-    ensures first { (intake : intake.Intake) → index_spec.IsIndexBy intake index.now → spans.IsFirstOwed owed place pair (placed_spec.placed_in intake.acts) result }
     ensures in_range { result ≤ 2 ^ 63 }
-    ensures onward { owed ≤ result }
 {
-    let listener = Listener {
-        pair,
-        since: Some(place),
-    };
-    let brought = least_brought(index.acts_of(pair.writer), &listener, owed);
+    let pair = newcomer.pair;
+    let owed = owing.owed(newcomer);
+    let brought = owing.brought(index.acts_of(pair.writer), newcomer);
     let asked = least_asked(index.acts_of(pair.reader), pair, owed);
     match lesser(brought, asked) {
         Some(number) => number,
@@ -249,23 +153,44 @@ fn first_owed(index: &Index<'_>, pair: Pair, place: Location, owed: u64) -> u64
     }
 }
 
-/// The datagram of the first of these acts, behind the place where the reader joins, that says that it leaves.
-fn left_among(acts: &[Placed<'_>], reader: Guid, place: Location) -> Option<u64>
-    ensures { result ≡ option_map (λ placed. placed.datagram) (find (spans.leaves_behind place reader) (map placed_spec.placed_value acts.now)) }
-{
-    for placed in acts {
-        if leaves_behind(placed, reader, place) {
-            return Some(placed.datagram as u64);
-        }
-    }
-    None
-}
-
 /// Whether an act behind the place where the reader joins says that it leaves.
 fn leaves_behind(placed: &Placed<'_>, reader: Guid, place: Location) -> bool
     ensures { result ≡ spans.leaves_behind place reader (placed_spec.placed_value placed.now) }
 {
     is_behind(Some(place), placed) && leaves(&placed.act, reader)
+}
+
+/// The datagram of the first act, behind the place where the reader joins, that says that it leaves, with one act more.
+pub(crate) fn left_with(
+    left: Option<u64>,
+    placed: &Placed<'_>,
+    reader: Guid,
+    place: Location,
+) -> Option<u64>
+    ensures { (acts : List placed_spec.PlacedValue) → left ≡ option_map (λ placed. placed.datagram) (find (spans.leaves_behind place reader) acts)
+        → result ≡ option_map (λ placed. placed.datagram) (find (spans.leaves_behind place reader) (acts ++ placed_spec.placed_value placed.now ∷ [])) }
+{
+    if left.is_some() {
+        return left;
+    }
+    if leaves_behind(placed, reader, place) {
+        return Some(placed.datagram as u64);
+    }
+    left
+}
+
+/// The datagram of the first of these acts, behind the place where the reader joins, that says that it leaves.
+fn left_among(acts: &[Placed<'_>], reader: Guid, place: Location) -> Option<u64>
+    ensures { result ≡ option_map (λ placed. placed.datagram) (find (spans.leaves_behind place reader) (map placed_spec.placed_value acts.now)) }
+{
+    let mut left = None;
+    for placed in acts {
+        left = left_with(left, placed, reader, place);
+        if left.is_some() {
+            return left;
+        }
+    }
+    left
 }
 
 /// The datagram in which a reader, or a participant, that joins at a place leaves; None where it does not.
@@ -278,15 +203,16 @@ pub fn left_in(index: &Index<'_>, reader: Guid, place: Location) -> Option<u64>
     lesser(reader_left, participant_left)
 }
 
-/// The number from which on a row is, of a reader that joins at a place.
-fn first_number(index: &Index<'_>, pair: Pair, place: Location, from: SeqNum) -> FirstAsked
-    ensures { (intake : intake.Intake) → index_spec.IsIndexBy intake index.now → spans.IsFirstIn from place pair intake result }
+/// The number from which on a row is, of a newcomer, which the writer's acts tell.
+#[tactic(auto, using(crate::proofs::NewcomerLemmas::first_in))]
+fn first_number(index: &Index<'_>, newcomer: &Newcomer, owing: &Owing) -> FirstAsked
+    ensures { (intake : intake.Intake) → index_spec.IsIndexBy intake index.now → spans.IsVolatileIn intake newcomer.now.pair.reader newcomer.now.is_volatile
+        → newcomers.IsOwing newcomer.now (filter (placed_spec.is_from newcomer.now.pair.writer) (placed_spec.placed_in intake.acts)) owing.now
+        → spans.IsFirstIn newcomer.now.from newcomer.now.place newcomer.now.pair intake result }
 {
-    let owed = owed_from(index, pair, place, from);
-    let first = first_owed(index, pair, place, owed);
-    match FirstAsked::new(first) {
+    match FirstAsked::new(first_owed(index, newcomer, owing)) {
         Some(first) => first,
-        None => FirstAsked::of(from),
+        None => newcomer.from,
     }
 }
 
@@ -332,21 +258,14 @@ impl Span {
     pub fn of(index: &Index<'_>, pair: Pair, from: SeqNum) -> Span
         ensures { (intake : intake.Intake) → index_spec.IsIndexBy intake index.now → spans.IsSpan from pair intake result }
     {
-        let whole = Span::whole(index, pair, from);
-        let Some(place) = whole.joined else {
-            return whole;
-        };
-        let from = if whole.is_joined_here {
-            first_number(index, pair, place, from)
-        } else {
-            FirstAsked::of(from)
-        };
-        Span {
-            joined: Some(place),
-            is_joined_here: whole.is_joined_here,
-            from,
-            until: left_in(index, pair.reader, place),
+        let mut spanning = Spanning::new(index, pair, from);
+        if spanning.newcomer.is_none() {
+            return spanning.span;
         }
+        for placed in index.acts_of(pair.writer) {
+            spanning.hear(placed);
+        }
+        spanning.span(index)
     }
 
     /// The place behind which acts are since the reader joined; None where all are.
@@ -357,6 +276,66 @@ impl Span {
             self.joined
         } else {
             None
+        }
+    }
+}
+
+/// The reader of a pair, of which this is the whole recording; None where it does not join in that.
+fn newcomer_of(index: &Index<'_>, pair: Pair, whole: &Span) -> Option<Newcomer>
+    ensures { (from : ℕ) (intake : intake.Intake) → index_spec.IsIndexBy intake index.now → spans.IsWhole from pair intake whole.now
+        → newcomers.IsJoinedAs from whole.now.joined pair intake whole.now.is_joined_here result }
+{
+    match whole.since() {
+        Some(place) => Some(Newcomer {
+            pair,
+            place,
+            from: whole.from,
+            is_volatile: is_volatile(index, pair.reader),
+        }),
+        None => None,
+    }
+}
+
+impl Spanning {
+    ghost use Rattle.rtps_discovery.specs.declared.matching.Pair.{Pair as PairValue};
+
+    /// The writer said nothing yet. It takes no memory.
+    pub(crate) fn new(index: &Index<'_>, pair: Pair, from: SeqNum) -> Spanning
+        ensures { (intake : intake.Intake) → index_spec.IsIndexBy intake index.now → newcomers.IsSpanning from pair intake [] result }
+    {
+        let whole = Span::whole(index, pair, from);
+        let until = match whole.joined {
+            Some(place) => left_in(index, pair.reader, place),
+            None => None,
+        };
+        Spanning {
+            span: Span { until, ..whole },
+            newcomer: newcomer_of(index, pair, &whole),
+            owing: Owing::new(),
+        }
+    }
+
+    /// Is told the next act of the writer.
+    pub(crate) fn hear(&mut self, placed: &Placed<'_>)
+        ensures { (from : ℕ) (pair : PairValue) (intake : intake.Intake) (acts : List placed_spec.PlacedValue) → newcomers.IsSpanning from pair intake acts self.old
+            → newcomers.IsSpanning from pair intake (acts ++ placed_spec.placed_value placed.now ∷ []) self.new }
+    {
+        if let Some(newcomer) = &self.newcomer {
+            self.owing.hear(placed, newcomer);
+        }
+    }
+
+    /// The span, where all acts of the writer were told.
+    pub(crate) fn span(&self, index: &Index<'_>) -> Span
+        ensures { (from : ℕ) (pair : PairValue) (intake : intake.Intake) → index_spec.IsIndexBy intake index.now
+            → newcomers.IsSpanning from pair intake (filter (placed_spec.is_from pair.writer) (placed_spec.placed_in intake.acts)) self.now → spans.IsSpan from pair intake result }
+    {
+        match &self.newcomer {
+            Some(newcomer) => Span {
+                from: first_number(index, newcomer, &self.owing),
+                ..self.span
+            },
+            None => self.span,
         }
     }
 }

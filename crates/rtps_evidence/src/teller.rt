@@ -1,4 +1,4 @@
-ghost use Rattle.std.specs.Prelude.{◌≡◌, ◌<◌, ◌^◌, map};
+ghost use Rattle.std.specs.Prelude.{◌≡◌, ◌<◌, ◌^◌, ◌++◌, ◌∷◌, [], map, List};
 ghost use Rattle.rtps_audit.specs.Placed as placed_spec;
 ghost use Rattle.rtps_evidence.specs.Locations as locations;
 
@@ -34,15 +34,37 @@ pub(crate) fn teller_at(placed: &Placed<'_>) -> Teller
     }
 }
 
+/// The first act by which the reader hears a word for the number from the writer, with one act more.
+pub(crate) fn teller_with(
+    found: Option<Teller>,
+    placed: &Placed<'_>,
+    pair: Pair,
+    number: u64,
+) -> Option<Teller>
+    requires { number < 2 ^ 63 }
+    ensures { (acts : List placed_spec.PlacedValue) → found ≡ locations.teller_of pair.writer pair.reader number acts
+        → result ≡ locations.teller_of pair.writer pair.reader number (acts ++ placed_spec.placed_value placed.now ∷ []) }
+{
+    if found.is_some() {
+        return found;
+    }
+    if tells(placed, pair, number) {
+        return Some(teller_at(placed));
+    }
+    found
+}
+
 /// The first of these acts by which the reader hears a word for the number from the writer.
 pub(crate) fn find_teller(acts: &[Placed<'_>], pair: Pair, number: u64) -> Option<Teller>
     requires { number < 2 ^ 63 }
     ensures { result ≡ locations.teller_of pair.writer pair.reader number (map placed_spec.placed_value acts.now) }
 {
+    let mut found = None;
     for placed in acts {
-        if tells(placed, pair, number) {
-            return Some(teller_at(placed));
+        found = teller_with(found, placed, pair, number);
+        if found.is_some() {
+            return found;
         }
     }
-    None
+    found
 }

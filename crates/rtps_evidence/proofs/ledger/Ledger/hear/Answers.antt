@@ -1,4 +1,4 @@
-use Rattle.std.proofs.Common.{◌∙◌, ◌||◌, ap, map, sym}
+use Rattle.std.proofs.Common.{ℕ, ◌≡◌, ◌∙◌, ◌||◌, ◌++◌, ◌∷◌, [], ap, false, map, sym, true}
 use Rattle.std.specs.BTreeMap.{get}
 use Rattle.std.specs.Option.{option_map}
 use Rattle.std.specs.Ordering.{nat_cmp}
@@ -9,9 +9,24 @@ use Rattle.rtps_discovery.specs.declared.matching.Pair.{Pair}
 use Rattle.rtps_evidence.specs.Missed as missed
 use Rattle.rtps_evidence.specs.Requests as requests
 use Rattle.rtps_evidence.specs.Spans as spans
-use Rattle.rtps_evidence.proofs.LedgerLemmas.{any_more}
+use Rattle.rtps_evidence.proofs.LedgerLemmas.{any_more, none_has, unasked}
 use Rattle.rtps_evidence.proofs.RequestLemmas.{met_more}
 use Rattle.rtps_evidence.proofs.ledger.Ledger.hear.Goals as goal
+
+pub returns-then-is_empty : goal.returns-then-is_empty
+returns-then-is_empty c = λ acts so.
+    let exchange = c.args.exchange.now in
+    let pair = exchange.pair in
+    let since = spans.since_of exchange.span in
+    let more = acts ++ placed.placed_value c.args.placed.now ∷ [] in
+    let asks = map placed.placed_value exchange.said.asks.now in
+    let lacks = stretches.stretches_have c.args.lacking.now in
+    let none : (n : ℕ) → lacks n ≡ false = λ n. none_has c.args.lacking.now n (sym c.is_empty.ensures ∙ c.if-is_empty.true) in
+    record {
+      requests = λ n. so.requests n ∙ unasked since pair n acts asks lacks (none n) ∙ sym (unasked since pair n more asks lacks (none n));
+      brought = λ n lacking. absurd (let clash : true ≡ false = sym lacking ∙ none n in cc);
+      silent = λ n lacking. absurd (let clash : true ≡ false = sym lacking ∙ none n in cc);
+    }
 
 pub returns : goal.returns
 returns c =

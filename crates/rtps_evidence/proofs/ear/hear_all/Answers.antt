@@ -1,0 +1,14 @@
+use Rattle.std.proofs.Common.{List, map, subst, sym, take}
+use Rattle.rtps_audit.specs.Placed as placed
+use Rattle.rtps_evidence.proofs.RequestLemmas.{taken_more}
+use Rattle.rtps_evidence.proofs.ear.hear_all.Goals as goal
+
+pub loop-placed-init : goal.loop-placed-init
+loop-placed-init g c = g.met.E.Ear.begins c.args.ear.now
+
+pub loop-placed-preserved : goal.loop-placed-preserved
+loop-placed-preserved g c =
+    let acts = c.args.acts.now in
+    let i = c.loop-placed.placed-index in
+    subst (λ (l : List placed.PlacedValue). g.E.Ear.has_heard c.args.ear.now l c.hear.new.self) (sym (taken_more acts i c.placed-item.result c.loop-placed-test.true c.placed-item.is))
+    (c.in_ok-hear.ensures c.args.ear.now (map placed.placed_value (take i acts)) c.loop-placed.invariant)
