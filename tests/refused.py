@@ -157,7 +157,21 @@ def of_calls(calls, recording):
             yield f'{call}{name}', [calls, 'refuse', call], text, (f'{call}: Memory, and then as if it were the first\n', [], 0), 0, MARK
 
 
-def of_program(library, program, recording):
+def written(folder, octets):
+    """the name of a file of these octets"""
+    handle, name = tempfile.mkstemp(dir=folder)
+    with os.fdopen(handle, 'wb') as file:
+        file.write(octets)
+    return name
+
+
+def of_files(folder, recording):
+    """runs of files, which are read two or three times: a name, the words, and standard input"""
+    names = {text: written(folder, text) for text in (recording, many_endpoints(), named_readers(), file_of('examples', 'loopback.pcap'))}
+    return [(f' of a file, {place}', [command, name], b'') for place, name in enumerate(names.values()) for command in ('audit', 'list')]
+
+
+def of_program(library, program, recording, folder):
     """what is tried of the program: of a run on a recording, the requests may go on that are made until the FILE is opened"""
     nothing = '', ['rtps-audit: out of memory'], 3
     refused = [['--help'], ['audit', '--help'], ['--version'], ['audit'], [], ['show', '--quiet'], ['audit', '--from', '0', '-']]
@@ -185,9 +199,10 @@ def of_program(library, program, recording):
     runs.append((' of a capture', ['show', '-'], loopback))
     runs.append((' of any capture', ['audit', '--any', '-'], file_of('examples', 'ipv6.pcapng')))
     runs.append((' of packets in fragments', ['show', '--any', '-'], packets_in_fragments(recording_of(recording))))
+    runs += of_files(folder, recording)
     for name, words, text in runs:
         of_words = requests_of(library, [program, *words[:-1], 'absent.rec'])
-        yield f"rtps-audit {' '.join(words)}{name}", [program, *words], text, nothing, of_words
+        yield f"rtps-audit {' '.join(words[:-1])} {'-' if words[-1] == '-' else 'FILE'}{name}", [program, *words], text, nothing, of_words
 
 
 def main():
@@ -198,7 +213,7 @@ def main():
     tests = Counts()
     with tempfile.TemporaryDirectory() as folder:
         library = built(folder)
-        for name, *one in (*of_calls(calls, recording), *of_program(library, program, recording)):
+        for name, *one in (*of_calls(calls, recording), *of_program(library, program, recording, folder)):
             told, went_on, others = sweep(library, *one)
             tests.count(told, others + (told == 0))
             print(f'{name}: {told} requests refused' + (f', and {went_on} that changed nothing' if went_on else ''))
