@@ -21,7 +21,7 @@ const IP_SIZE: usize = 20;
 const UDP_SIZE: usize = 8;
 
 /// A recording in memory, and what it is from the second pass on.
-#[derive(Drop)]
+#[derive(Clone, Copy)]
 struct Recorded<'a> {
     first: &'a [u8],
     later: &'a [u8],

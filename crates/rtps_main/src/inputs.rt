@@ -1,5 +1,7 @@
 //! The inputs of a run, and what is known of them.
 
+ghost use Rattle.std.specs.Io.{ReadsAtMost};
+
 use crate::progress::Progress;
 use rtps_tool::{CAPTURE_HEADER_SIZE, Source};
 use std::fs::File;
@@ -92,7 +94,9 @@ impl Opened {
     }
 
     /// Reads on.
-    fn read(&self, buf: &mut [u8]) -> io::Result<usize> {
+    fn read(&self, buf: &mut [u8]) -> io::Result<usize>
+        ensures { ReadsAtMost result buf.new }
+    {
         match self {
             Opened::Nothing => Ok(0),
             Opened::Standard(input) => {
