@@ -91,11 +91,10 @@ pub(crate) fn push_sources(
     text: &mut String,
 ) -> Result<(), Fault> {
     let capture = capture_of(alloc, recording)?;
-    for (form, octets) in [("text", octets), ("capture", capture.as_slice())] {
-        writeln!(text, "-- a {form} by passes")?;
-        push_passes(alloc, octets, text)?;
-    }
-    Ok(())
+    writeln!(text, "-- a text by passes")?;
+    push_passes(alloc, octets, text)?;
+    writeln!(text, "-- a capture by passes")?;
+    push_passes(alloc, &capture, text)
 }
 
 /// Appends what runs by passes write of a recording, and that a change is told.
