@@ -6,7 +6,6 @@
 
 mod acts;
 mod fault;
-mod sources;
 mod texts;
 mod verdicts;
 
@@ -32,7 +31,6 @@ fn run(rt: &HostRuntime) -> Result<(), Fault> {
     let mut text = String::new(alloc);
     texts::push_texts(alloc, input.as_bytes(), &mut text)?;
     let recording = read_recording(alloc, input.as_bytes())?;
-    sources::push_sources(alloc, input.as_bytes(), &recording, &mut text)?;
     let pairs = acts::push_directory(alloc, &recording, &mut text)?;
     verdicts::push_verdicts(alloc, &recording, &pairs, &mut text)?;
     print!(rt; "{text}")?;

@@ -15,12 +15,7 @@ fn ending_word(ending: &Ending) -> &'static str {
 }
 
 /// Appends what a run wrote, and how it ended.
-pub(crate) fn push_run(
-    name: &str,
-    written: Vec<u8>,
-    ending: Ending,
-    text: &mut String,
-) -> Result<(), Fault> {
+fn push_run(name: &str, written: Vec<u8>, ending: Ending, text: &mut String) -> Result<(), Fault> {
     let Ok(written) = String::from_utf8(written) else {
         return Err(Fault::Differs("a run wrote what is no text"));
     };
