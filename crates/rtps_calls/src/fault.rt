@@ -86,7 +86,7 @@ impl From<RunFault> for Fault {
         match fault {
             RunFault::Recording(fault) => Fault::from(fault),
             RunFault::Memory => Fault::Memory,
-            RunFault::Input | RunFault::Output { .. } => Fault::Stream,
+            RunFault::Input | RunFault::Output { .. } | RunFault::Changed => Fault::Stream,
         }
     }
 }
