@@ -1,5 +1,5 @@
 /* Has files that are read again do what files do at the worst time. The program is run with this preloaded; tests/passes.py
-   builds it. It uses no header, so that any compiler will do. A pass begins where a file is sought to its start, and is counted
+   builds it. It uses no header of a system, so that any compiler will do. A pass begins where a file is sought to its start, and is counted
    from 1. Settings, each of which may lack:
    SHORT_READS    a read of a file gives one octet at most
    CHANGED_PASS   in this pass, and in those behind it, the octet at CHANGED_AT is another one
@@ -8,28 +8,17 @@
    FAILED_PASS    the first read of this pass fails
    UNSOUGHT_PASS  a file cannot be sought to its start for this pass */
 
+#include "settings.h"
+
 extern long __read(int file, void *octets, unsigned long size);
 extern long __write(int file, const void *octets, unsigned long size);
 extern long __lseek(int file, long at, int from);
 extern int open(const char *name, int flags, ...);
 extern int *__errno_location(void);
-extern char *getenv(const char *name);
 
 enum { INPUT_OUTPUT_ERROR = 5, SEEK_START = 0, ONLY_READ = 0, ONLY_WRITE_BEHIND = 02001, FIRST_FILE = 3 };
 
 static long passes, place;
-
-/* The number of this name; below 0 where there is none. */
-static long number(const char *name)
-{
-    const char *digit = getenv(name);
-    long value = 0;
-    if (digit == 0)
-        return -1;
-    for (; *digit >= '0' && *digit <= '9'; digit++)
-        value = 10 * value + (*digit - '0');
-    return value;
-}
 
 static void grow(void)
 {

@@ -1,28 +1,17 @@
 /* Has standard input give one octet for each read, and standard output take one octet for each write. The read that
    FAILED_READ counts from 1 fails. Standard output has room for OUTPUT_ROOM octets, where that is set; then it fails, or
    takes none where OUTPUT_STOPS is set. The program is run with this preloaded; tests/streams.py builds it. It uses no
-   header, so that any compiler will do. */
+   header of a system, so that any compiler will do. */
+
+#include "settings.h"
 
 extern long __read(int file, void *octets, unsigned long size);
 extern long __write(int file, const void *octets, unsigned long size);
 extern int *__errno_location(void);
-extern char *getenv(const char *name);
 
 enum { BROKEN_PIPE = 32, CONNECTION_RESET = 104 };
 
 static long reads, written;
-
-/* The number of this name; below 0 where there is none. */
-static long number(const char *name)
-{
-    const char *digit = getenv(name);
-    long value = 0;
-    if (digit == 0)
-        return -1;
-    for (; *digit >= '0' && *digit <= '9'; digit++)
-        value = 10 * value + (*digit - '0');
-    return value;
-}
 
 long read(int file, void *octets, unsigned long size)
 {
