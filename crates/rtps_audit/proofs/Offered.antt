@@ -21,15 +21,19 @@ pub use Rattle.rtps_audit.proofs.DeliveryRuns.{Follows-append, place_within}
 pub use Rattle.rtps_audit.proofs.Sound.{reached-sound}
 pub use Rattle.rtps_audit.proofs.Verdicts.{runs_exist_where_founded}
 -- which numbers have a word; what is taken in of a datagram more
-pub use Rattle.rtps_audit.proofs.IntakeLemmas.{intake_on}
+pub use Rattle.rtps_audit.proofs.IntakeLemmas.{counts_more, intake_on}
 -- lists: what stands first or behind, what stands among what a function gives, what is below the greatest; tests of equal parts
-pub use Rattle.rtps_audit.proofs.PlacedActs.{placed_push, contains_cases, contains_head, contains_none, contains_tail, kept_if_passed, kept_is_there, made_from, makes}
-pub use Rattle.rtps_audit.proofs.PlacedLemmas.{both, bytes_eq-sym, is_eq-guid_cmp}
+pub use Rattle.rtps_audit.proofs.PlacedActs.{contains_cases, contains_head, contains_none, contains_tail, kept_if_passed, kept_is_there, made_from, makes, placed_push, together_push}
+pub use Rattle.rtps_audit.proofs.PlacedLemmas.{all_between, all_with_first, answer_added, both, bytes_eq-sym, is_eq-guid_cmp, no_pair, placed_more}
 -- entries of a map by GUID; the verdict by all runs
 pub use Rattle.rtps_audit.proofs.GroupLemmas.{entry_written, equal_of, found_alike}
-pub use Rattle.rtps_audit.proofs.ExactVerdicts.{exact_verdict}
+pub use Rattle.rtps_audit.proofs.ExactVerdicts.{exact_report, exact_verdict}
 pub use Rattle.rtps_audit.proofs.Greatest.{below_greatest, greatest-append, greatest_below}
 pub use Rattle.rtps_audit.proofs.IndexSpeech.{if_some, contains_mapped, get_mapped, mapped_contains, mapped_get}
+pub use Rattle.rtps_audit.proofs.AccountsLemmas.{all_passed}
+pub use Rattle.rtps_audit.proofs.AskLemmas.{later_place, other_place, pushed, same_place}
+pub use Rattle.rtps_audit.proofs.PayloadHearing.{and_second, from_speaks, sent_moved}
+pub use Rattle.rtps_audit.proofs.WordLemmas.{payload_number}
 
 -- ---- who an act is from
 

@@ -15,11 +15,11 @@ use Rattle.std.proofs.lemmas.List.{get_or_append_left, get_or-drop, get_or-map, 
 use Rattle.std.proofs.lemmas.List.Elements.{All-nil, All-push}
 use Rattle.std.proofs.lemmas.Map.Keys.{Less-from_sorted, sorted_from_all_adjacent}
 use Rattle.rtps_ids.specs.declared.identity.Guid.{Guid}
-use Rattle.rtps_discovery.proofs.GuidLaws.{exact_guids, guids_total}
+use Rattle.rtps_discovery.proofs.Offered.{exact_guids, guids_total}
 use Rattle.rtps_discovery.specs.GuidOrder.{guid_cmp}
 use Rattle.rtps_discovery.specs.Listings.{pair_cmp}
 use Rattle.rtps_discovery.specs.declared.matching.Pair.{Pair}
-use Rattle.rtps_audit.proofs.PlacedLemmas.{no_pair}
+use Rattle.rtps_audit.proofs.Offered.{no_pair}
 use Rattle.rtps_passes.specs.Judging as judging
 use Rattle.rtps_passes.specs.declared.judged_writer.JudgedWriter.{JudgedWriter}
 use Rattle.rtps_passes.proofs.PlaceLemmas.{key_below}

@@ -20,12 +20,7 @@ use Rattle.rtps_audit.specs.Placed as placed_spec
 use Rattle.rtps_audit.specs.Report as report
 use Rattle.rtps_audit.specs.Speech as speech
 use Rattle.rtps_audit.specs.declared.report.Row.{Row}
-use Rattle.rtps_audit.proofs.AccountsLemmas.{all_passed}
-use Rattle.rtps_audit.proofs.AskLemmas.{same_place}
-use Rattle.rtps_audit.proofs.Greatest.{greatest_below}
-use Rattle.rtps_audit.proofs.PayloadHearing.{and_second, from_speaks}
-use Rattle.rtps_audit.proofs.PlacedActs.{makes}
-use Rattle.rtps_audit.proofs.WordLemmas.{payload_number}
+use Rattle.rtps_audit.proofs.Offered.{all_passed, and_second, from_speaks, greatest_below, makes, payload_number, same_place}
 use Rattle.rtps_passes.specs.Comparison as comparison
 use Rattle.rtps_passes.specs.Judging as judging
 use Rattle.rtps_passes.specs.declared.judged_writer.JudgedWriter.{JudgedWriter}

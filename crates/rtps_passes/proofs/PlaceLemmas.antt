@@ -11,8 +11,8 @@ use Rattle.std.proofs.lemmas.List.Sorted.{searchable_from_sorted}
 use Rattle.std.proofs.lemmas.Map.Keys.{Less-from_sorted}
 use Rattle.rtps_ids.specs.declared.identity.Guid.{Guid}
 use Rattle.rtps_discovery.specs.GuidOrder.{guid_cmp}
-use Rattle.rtps_audit.proofs.AskLemmas.{later_place, other_place, same_place}
-use Rattle.rtps_audit.proofs.PlacedLemmas.{guids_total}
+use Rattle.rtps_discovery.proofs.Offered.{guids_total}
+use Rattle.rtps_audit.proofs.Offered.{later_place, other_place, same_place}
 use Rattle.rtps_passes.specs.Judging as judging
 use Rattle.rtps_passes.specs.declared.judged_writer.JudgedWriter.{JudgedWriter}
 

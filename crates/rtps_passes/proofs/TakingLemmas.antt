@@ -26,8 +26,7 @@ use Rattle.rtps_audit.specs.declared.accounts.Accounts.{Accounts}
 use Rattle.rtps_audit.specs.declared.answer.Answer.{Answer}
 use Rattle.rtps_audit.specs.declared.ask.Ask.{Ask}
 use Rattle.rtps_audit.specs.declared.front_ranges.FrontRanges.{FrontRanges}
-use Rattle.rtps_audit.proofs.AskLemmas.{later_place, other_place, pushed}
-use Rattle.rtps_audit.proofs.PlacedLemmas.{answer_added, is_eq-guid_cmp}
+use Rattle.rtps_audit.proofs.Offered.{answer_added, is_eq-guid_cmp, later_place, other_place, pushed}
 use Rattle.rtps_passes.specs.Judging as judging
 use Rattle.rtps_passes.specs.declared.judged_writer.JudgedWriter.{JudgedWriter}
 use Rattle.rtps_passes.proofs.BeginLemmas.{pairs_total}

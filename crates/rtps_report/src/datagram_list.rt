@@ -1,10 +1,8 @@
-ghost use Rattle.std.specs.Prelude.{◌≡◌, ◌++◌, ◌∷◌, [], ◌+◌, ◌/◌, ◌<◌, ◌^◌, if◌then◌else◌, length, take, drop, is_ok, IfOk, OnErr, IsTrue};
+ghost use Rattle.std.specs.Prelude.{◌≡◌, ◌++◌, ◌∷◌, [], ◌<◌, ◌^◌, length, OnErr, OnOk};
 ghost use Rattle.std.specs.Iterator.{YieldsFirstRef, item_count};
-ghost use Rattle.hex.specs.Hex.{decode_of};
-ghost use Rattle.rtps_digits.specs.Pairs as pairs;
 ghost use Rattle.rtps_report.specs.DatagramSpan as datagram_span;
 
-use crate::datagram_span::{DatagramSpan, make_room};
+use crate::datagram_span::{DatagramSpan, make_room, push_octets};
 use std::alloc::{AllocError, Global};
 use std::marker::Model;
 
@@ -63,24 +61,20 @@ impl DatagramList {
         }
     }
 
-    /// Appends the datagram that these hexadecimal digits stand for, and answers whether they stand for one. Nothing
-    /// changes where they do not, and after an `Err`: that is want of memory, or of a span ([`DatagramSpan::new`]), where the
-    /// datagram would have more than 65,535 octets or begin behind 2^48 of them.
-    pub fn push_hex(&mut self, digits: &[u8]) -> Result<bool, AllocError>
-        ensures found { IfOk result (λ found. found ≡ is_ok (decode_of digits.now)) }
-        ensures pushed { IfOk result (λ found. self.new ≡ (if found then self.old ++ pairs.octets_of digits.now ∷ [] else self.old)) }
+    /// Appends a datagram. Nothing changes after an `Err`: that is want of memory, or of a span ([`DatagramSpan::new`]), where it has more
+    /// than 65,535 octets or would begin behind 2^48 of them.
+    pub fn push(&mut self, octets: &[u8]) -> Result<(), AllocError>
+        ensures pushed { OnOk result (self.new ≡ self.old ++ octets.now ∷ []) }
         ensures err { OnErr result (self.new ≡ self.old) }
     {
         let from = self.octets.len();
-        let Some(span) = DatagramSpan::new(from, from + digits.len() / 2) else {
+        let Some(span) = DatagramSpan::new(from, from + octets.len()) else {
             return Err(AllocError);
         };
         make_room(&mut self.spans, 1)?;
-        if !append_hex(&mut self.octets, digits)? {
-            return Ok(false);
-        }
+        push_octets(&mut self.octets, octets)?;
         self.spans.push_reserved(span);
-        Ok(true)
+        Ok(())
     }
 }
 
@@ -119,33 +113,4 @@ impl<'a> Iterator for Datagrams<'a> {
         self.spans = &self.spans[1..];
         Some(&self.octets[span.start()..span.end()])
     }
-}
-
-/// Appends the octets that these digits stand for, and answers whether they stand for any. Nothing is appended where
-/// they do not, and after an `Err`.
-fn append_hex(octets: &mut Vec<u8>, digits: &[u8]) -> Result<bool, AllocError>
-    ensures found { IfOk result (λ found. found ≡ is_ok (decode_of digits.now)) }
-    ensures appended { IfOk result (λ found. octets.new.items ≡ octets.old.items ++ pairs.octets_of digits.now) }
-    ensures size { IfOk result (λ found. IsTrue found → length (pairs.octets_of digits.now) ≡ length digits.now / 2) }
-    ensures err { OnErr result (octets.new.items ≡ octets.old.items) }
-{
-    let from = octets.len();
-    make_room(octets, digits.len() / 2)?;
-    octets.resize(from + digits.len() / 2, 0)?;
-    let found = decode_behind(octets.as_mut_slice(), from, digits);
-    if !found {
-        octets.truncate(from);
-    }
-    Ok(found)
-}
-
-/// Writes the octets that these digits stand for over those from place `from` on, and answers whether they stand for
-/// any.
-fn decode_behind(octets: &mut [u8], from: usize, digits: &[u8]) -> bool
-    requires { length octets.old ≡ from + length digits.now / 2 }
-    ensures found { result ≡ is_ok (decode_of digits.now) }
-    ensures front { take from octets.new ≡ take from octets.old }
-    ensures back { IsTrue result → drop from octets.new ≡ pairs.octets_of digits.now }
-{
-    rtps_digits::decode(&mut octets[from..], digits)
 }

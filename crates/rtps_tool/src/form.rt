@@ -2,7 +2,6 @@
 
 pub(crate) mod capture_blocks;
 pub(crate) mod collected;
-pub(crate) mod collected_text;
 pub(crate) mod either;
 pub(crate) mod hex_lines;
 pub(crate) mod line_reader;

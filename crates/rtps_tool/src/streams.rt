@@ -9,14 +9,13 @@ ghost use Rattle.rtps_tool.specs.declared.faults.RunFault.TheVariants.{Input};
 
 use crate::faults::{RecFault, RunFault};
 use crate::form::capture_blocks::{CaptureTerms, read_capture};
-use crate::form::collected_text::CollectedText;
 use crate::form::either::{begins_capture, read_recording_within};
 use crate::form::hex_lines::take_lines;
 use crate::form::line_reader::{KEPT_MAX, LineReader};
 use crate::form::taking::Take;
 use crate::runs::Limits;
 use rtps_capture::Captures;
-use rtps_report::Recording;
+use rtps_report::{DatagramList, Recording};
 use std::alloc::{AllocError, Global};
 use std::io::{Read, Write};
 
@@ -111,9 +110,9 @@ fn read_text_input<R: Read>(
         (runs.ReadsRecording terms.limits terms.captures before (R.remaining input.new))
         (runs.FailsReading terms.limits terms.captures before (R.remaining input.new)) }
 {
-    let mut list = CollectedText::new(terms.alloc);
+    let mut list = DatagramList::new(terms.alloc);
     let _ = take_text(terms, input, held, start, &mut list)?;
-    Ok(Recording::of_text(terms.alloc, list.into_list()))
+    Ok(Recording::of_text(terms.alloc, list))
 }
 
 /// Tells a taker the datagrams of a text of these octets, which are all the input and too few to begin a capture. Answers how many octets

@@ -9,12 +9,11 @@ ghost use Rattle.rtps_tool.specs.RecordingText as recording_text;
 ghost use Rattle.rtps_tool.specs.Sums as sums;
 
 use crate::faults::RecFault;
-use crate::form::collected_text::CollectedText;
 use crate::form::line_reader::LineReader;
 use crate::form::taking::Take;
 use rtps_capture::Datagram;
 use rtps_ids::Memory;
-use rtps_report::Recording;
+use rtps_report::{DatagramList, Recording};
 use std::alloc::{AllocError, Global};
 
 /// The most digits of a datagram: two for each of 65,535 octets, as UDP carries no more.
@@ -52,9 +51,9 @@ pub(crate) fn read_text(alloc: Global, most: u64, text: &[u8]) -> Result<Recordi
         (λ recording. recording_text.recording_of_text most text.now ≡ Ok recording)
         (outcomes.IsFaultOf (recording_text.recording_of_text most text.now)) }
 {
-    let mut list = CollectedText::new(alloc);
+    let mut list = DatagramList::new(alloc);
     take_lines(alloc, most, text, &mut list)?;
-    Ok(Recording::of_text(alloc, list.into_list()))
+    Ok(Recording::of_text(alloc, list))
 }
 
 /// Tells a taker the datagrams of a text, of which there may be so many. After an `Err` the taker is of no use.
@@ -72,6 +71,15 @@ pub(crate) fn take_lines<T: Take>(
     let mut reader = LineReader::new(alloc);
     let from = reader.read_complete(most, text, 0, taker)?;
     reader.finish(most, &text[from..], taker)
+}
+
+impl Take for DatagramList {
+    ghost has_taken = { λ start datagrams list. start ≡ [] → list ≡ sums.octets_of datagrams };
+
+    fn take(&mut self, datagram: &Datagram<'_>) -> Result<(), Memory> {
+        self.push(datagram.octets)?;
+        Ok(())
+    }
 }
 
 /// Whether a line stands for a datagram.

@@ -4,7 +4,7 @@ use Rattle.std.proofs.lemmas.Cmp.{tied_itself}
 use Rattle.std.proofs.lemmas.List.{get_or_default}
 use Rattle.std.proofs.lemmas.List.Sorted.{answers_always}
 use Rattle.rtps_ids.specs.declared.identity.Guid.{Guid}
-use Rattle.rtps_discovery.proofs.GuidLaws.{guids_total}
+use Rattle.rtps_discovery.proofs.Offered.{guids_total}
 use Rattle.rtps_discovery.specs.GuidOrder.{guid_cmp}
 use Rattle.rtps_passes.specs.Judging as judging
 use Rattle.rtps_passes.specs.declared.judged_writer.JudgedWriter.{JudgedWriter}

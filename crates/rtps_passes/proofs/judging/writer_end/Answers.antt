@@ -2,7 +2,7 @@ use Rattle.std.proofs.Common.{◌≡◌, ◌∙◌, ap, arith, get_or, rules, su
 use Rattle.std.proofs.lemmas.List.{get_or_default}
 use Rattle.std.proofs.lemmas.List.Elements.{AllWithin-more}
 use Rattle.rtps_discovery.specs.declared.matching.Pair.{Pair}
-use Rattle.rtps_audit.proofs.PlacedLemmas.{no_pair}
+use Rattle.rtps_audit.proofs.Offered.{no_pair}
 use Rattle.rtps_passes.proofs.judging.writer_end.Goals as goal
 
 pub loop-place-preserved : goal.loop-place-preserved

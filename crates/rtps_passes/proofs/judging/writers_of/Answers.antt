@@ -1,7 +1,7 @@
 use Rattle.std.proofs.Common.{◌≡◌, [], ap, arith, get_or, refl, subst}
 use Rattle.std.proofs.lemmas.List.{get_or_default, take_all}
 use Rattle.rtps_discovery.specs.declared.matching.Pair.{Pair}
-use Rattle.rtps_audit.proofs.PlacedLemmas.{all_between, all_with_first, no_pair}
+use Rattle.rtps_audit.proofs.Offered.{all_between, all_with_first, no_pair}
 use Rattle.rtps_passes.specs.Judging as judging
 use Rattle.rtps_passes.proofs.BeginLemmas.{more_begun, none_begun, range_in_order}
 use Rattle.rtps_passes.proofs.judging.writers_of.Goals as goal

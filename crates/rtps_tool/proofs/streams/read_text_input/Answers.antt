@@ -12,4 +12,4 @@ returns-in_err-take_text g c = λ before plain taken.
 pub returns : goal.returns
 returns g c = λ before plain taken.
     let all = c.in_ok-take_text.ensures.told before c.new-list.result plain taken (λ is. is) in
-    rw c.of_text.ensures (ReadsRecording-text _ _ _ _ _ _ _ all (c.into_list.ensures ∙ all.took c.new-list.ensures ∙ octets_of-untimed all.datagrams))
+    rw c.of_text.ensures (ReadsRecording-text _ _ _ _ _ _ _ all (all.took c.new-list.ensures ∙ octets_of-untimed all.datagrams))

@@ -4,8 +4,7 @@ use Rattle.std.proofs.lemmas.List.{take_all}
 use Rattle.rtps_receiver.specs.Values as values
 use Rattle.rtps_discovery.specs.GuidOrder.{guid_cmp}
 use Rattle.rtps_audit.specs.Placed as placed_spec
-use Rattle.rtps_audit.proofs.PlacedActs.{placed_push}
-use Rattle.rtps_audit.proofs.PlacedLemmas.{placed_more}
+use Rattle.rtps_audit.proofs.Offered.{placed_more, placed_push}
 use Rattle.rtps_passes.specs.Comparison as comparison
 use Rattle.rtps_passes.specs.Judging as judging
 use Rattle.rtps_passes.specs.declared.judged_writer.JudgedWriter.{JudgedWriter}

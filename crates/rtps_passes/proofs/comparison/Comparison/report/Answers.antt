@@ -1,6 +1,6 @@
 use Rattle.std.proofs.Common.{◌∙◌, ap}
 use Rattle.rtps_audit.specs.Report as report
-use Rattle.rtps_audit.proofs.ExactVerdicts.{exact_report}
+use Rattle.rtps_audit.proofs.Offered.{exact_report}
 use Rattle.rtps_passes.specs.Judging as judging
 use Rattle.rtps_passes.proofs.comparison.Comparison.report.Goals as goal
 

@@ -6,7 +6,7 @@ use Rattle.std.proofs.lemmas.List.Sorted.{All-permutation, IsNonDecreasingBy-fro
 use Rattle.rtps_audit.specs.Account as account
 use Rattle.rtps_audit.specs.PayloadConflict as payload_conflict
 use Rattle.rtps_audit.specs.Placed as placed_spec
-use Rattle.rtps_audit.proofs.PayloadHearing.{sent_moved}
+use Rattle.rtps_audit.proofs.Offered.{sent_moved}
 use Rattle.rtps_passes.specs.Comparison as comparison
 use Rattle.rtps_passes.specs.Judging as judging
 use Rattle.rtps_passes.specs.declared.judged_writer.JudgedWriter.{JudgedWriter}

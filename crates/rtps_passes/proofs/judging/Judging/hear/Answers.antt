@@ -4,7 +4,7 @@ use Rattle.std.proofs.lemmas.List.{get_or_read}
 use Rattle.rtps_receiver.specs.Values as values
 use Rattle.rtps_discovery.specs.GuidOrder.{guid_cmp}
 use Rattle.rtps_audit.specs.Placed as placed_spec
-use Rattle.rtps_audit.proofs.AskLemmas.{same_place}
+use Rattle.rtps_audit.proofs.Offered.{same_place}
 use Rattle.rtps_passes.specs.Judging as judging
 use Rattle.rtps_passes.specs.declared.judged_writer.JudgedWriter.{JudgedWriter}
 use Rattle.rtps_passes.proofs.PlaceLemmas.{FindsWriter}

@@ -2,7 +2,7 @@ use Rattle.std.proofs.Common.{◌∙◌, ◌++◌, ap, append_assoc, arith, map,
 use Rattle.std.proofs.lemmas.List.{take_all}
 use Rattle.rtps_receiver.specs.Values as values
 use Rattle.rtps_audit.specs.Placed as placed_spec
-use Rattle.rtps_audit.proofs.PlacedLemmas.{placed_more}
+use Rattle.rtps_audit.proofs.Offered.{placed_more}
 use Rattle.rtps_passes.specs.Judging as judging
 use Rattle.rtps_passes.proofs.judging.Judging.hear_all.Goals as goal
 

@@ -2,7 +2,7 @@ use Rattle.std.proofs.Common.{◌≡◌, ◌∙◌, ◌+◌, ◌≤◌, ◌++◌
 use Rattle.std.proofs.lemmas.List.{length-append}
 use Rattle.rtps_receiver.specs.Values as values
 use Rattle.rtps_audit.specs.Placed as placed_spec
-use Rattle.rtps_audit.proofs.PlacedActs.{placed_push}
+use Rattle.rtps_audit.proofs.Offered.{placed_push}
 use Rattle.rtps_passes.specs.Judging as judging
 use Rattle.rtps_passes.proofs.TakingLemmas.{earlier, later_taken}
 use Rattle.rtps_passes.proofs.judging.Judging.note.Goals as goal

@@ -5,8 +5,7 @@ use Rattle.rtps_receiver.specs.Values as values
 use Rattle.rtps_discovery.specs.Directory as directory
 use Rattle.rtps_discovery.specs.Notice as notice
 use Rattle.rtps_audit.specs.Intake as intake_spec
-use Rattle.rtps_audit.proofs.IntakeLemmas.{counts_more}
-use Rattle.rtps_audit.proofs.PlacedActs.{together_push}
+use Rattle.rtps_audit.proofs.Offered.{counts_more, together_push}
 use Rattle.rtps_passes.proofs.survey.Survey.note.Goals as goal
 
 pub returns : goal.returns

@@ -15,5 +15,5 @@ pub returns : goal.returns
 unfolding recording_text.recording_of_text
 returns c =
     let all = c.in_ok-take_lines.ensures c.new-list.result (λ is. is) in
-    let same = c.into_list.ensures ∙ all.2 c.new-list.ensures ∙ octets_of-untimed all.0 in
+    let same = all.2 c.new-list.ensures ∙ octets_of-untimed all.0 in
     rw c.of_text.ensures (ap recording_text.without_frames (all.1 ∙ ap Ok (sym same)))

@@ -1,10 +1,10 @@
 use Rattle.std.proofs.Common.{◌≡◌, ◌++◌, ◌∷◌, [], arith}
+use Rattle.rtps_report.proofs.PiecesLemmas.{pieces-push}
 use Rattle.rtps_report.specs.declared.datagram_span.DatagramSpan.{DatagramSpan}
-use Rattle.rtps_tool.proofs.PiecesLemmas.{pieces-push}
-use Rattle.rtps_tool.proofs.form.collected_text.CollectedText.push.Goals as goal
+use Rattle.rtps_report.proofs.datagram_list.DatagramList.push.Goals as goal
 
-pub returns : goal.returns
-returns c =
+pub returns-clause-pushed : goal.returns-clause-pushed
+returns-clause-pushed c =
     let octets = c.self.inside.octets.items in
     let spans = c.self.inside.spans.items in
     let more = c.args.octets.now in
