@@ -11,7 +11,8 @@ pub mod OneExplanation
 pub mod AnswerLemmas
 pub mod PlacedOrder
 pub mod HushedRuns
-pub mod ReceivedRuns
+pub mod ReaderLemmas
+mod ReceivedRuns
 pub mod ClaimedLemmas
 pub mod NotReceivedLemmas
 pub mod QuestionLemmas

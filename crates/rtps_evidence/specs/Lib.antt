@@ -1,6 +1,7 @@
 pub mod Locations
 pub mod Amount
 pub mod FirstNumbers
+pub mod ReaderNotes
 pub mod Received
 pub mod OtherSide
 pub mod Recorded

@@ -43,6 +43,7 @@ mod outcome;
 mod outcome_sets;
 mod questioned;
 mod questions;
+mod reader_notes;
 mod received;
 mod recorded;
 mod runs;
