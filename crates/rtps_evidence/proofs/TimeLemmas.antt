@@ -1,5 +1,4 @@
 -- The greatest of times and their greatest step back, one after another.
-use Rattle.std.proofs.lemmas.Grind.{common_steps}
 use Rattle.std.proofs.lemmas.Bool.Decides.{nat_tests}
 use Rattle.std.proofs.Common.{◌≡◌, ◌∙◌, ℕ, ◌+◌, ◌<◌, ◌||◌, List, [], ◌∷◌, ◌++◌, get_or, length, map, max, take, Option, Some, None, refl, sym, ap, arith}
 use Rattle.std.specs.Prelude.{is_some}
