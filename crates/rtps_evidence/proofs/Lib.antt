@@ -37,6 +37,8 @@ pub mod ActOrder
 pub mod UnansweredLemmas
 pub mod RecordedLemmas
 pub mod TimeLemmas
+pub mod DatagramTimeLemmas
+pub mod FrameNumberLemmas
 pub mod WaitLemmas
 pub mod HeardLemmas
 pub mod LedgerLemmas

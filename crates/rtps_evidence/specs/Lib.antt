@@ -29,6 +29,8 @@ pub mod Certificates
 pub mod Explanation
 pub mod Ears
 pub mod Times
+pub mod DatagramTimes
+pub mod FrameNumbers
 pub mod Waits
 pub mod Heard
 pub mod Ledger
