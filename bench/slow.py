@@ -99,6 +99,17 @@ def silent_pairs(count):
     return make.ends_of_one_topic(RELIABLE, RELIABLE, count)
 
 
+def talking_pairs(count, rounds=5):
+    """so many writers and readers of one topic; each writer sends some samples, and each reader acknowledges each of them to each writer"""
+    for i in range(count):
+        yield announcement('writer', A, writer_at(i))
+        yield announcement('reader', B, reader_at(i))
+    for number in range(1, rounds + 1):
+        yield from (header(A) + data(writer_at(i), number, bytes(8)) + heartbeat(writer_at(i), 1, number) for i in range(count))
+        for k in range(count):
+            yield from packed(header(B) + to(A), [ack_nack(reader_at(k), writer_at(i), number + 1) for i in range(count)], 900)
+
+
 # ---- discovery
 
 # Who tells of its endpoints by which writer, and to which reader.
@@ -162,6 +173,7 @@ RECORDINGS = {
     'in_turns': Slow(500, lambda size: make.of_turns('in_turns', size * 1000)),
     'partitions': Slow(5000, partitions),
     'silent_pairs': Slow(400, silent_pairs),
+    'talking_pairs': Slow(150, talking_pairs),
     'announced': Slow(20000, announced, timed=True),
     'asked_again': Slow(20000, lambda size: announced(size, asks=True), timed=True),
     'many_announced': Slow(200, lambda size: announced(0, size), timed=True),
