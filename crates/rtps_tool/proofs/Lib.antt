@@ -1,3 +1,4 @@
+pub mod BesideLemmas
 pub mod BlocksLemmas
 pub mod PassesLemmas
 pub mod PiecesLemmas
