@@ -21,6 +21,6 @@ pub beside_unwritten : (limits : Limits) (captures : Captures) (IsPrinted : Opti
     → IsPrinted (Some other) own text ending → runs.FailsWriting held holds text fault → runs.RunsBeside limits captures IsPrinted unread left theirs rest held holds (Err (BesideFault.Run fault))
 beside_unwritten limits captures IsPrinted unread left theirs rest held holds other own text ending (RunFault.Recording fault) reads is printed fails = absurd fails
 beside_unwritten limits captures IsPrinted unread left theirs rest held holds other own text ending RunFault.Input reads is printed fails = absurd fails
-beside_unwritten limits captures IsPrinted unread left theirs rest held holds other own text ending (RunFault.Output written) reads is printed fails = (other, reads, own, text, ending, is, printed, fails)
+beside_unwritten limits captures IsPrinted unread left theirs rest held holds other own text ending (RunFault.Output written) reads is printed fails = (other, reads, (own, text, ending, is, printed, fails))
 beside_unwritten limits captures IsPrinted unread left theirs rest held holds other own text ending RunFault.Memory reads is printed fails = absurd fails
 beside_unwritten limits captures IsPrinted unread left theirs rest held holds other own text ending RunFault.Changed reads is printed fails = absurd fails
