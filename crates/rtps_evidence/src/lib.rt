@@ -9,6 +9,7 @@ mod brief;
 mod brought;
 mod case;
 mod claimed;
+mod coming;
 mod counted_answers;
 mod datagram_times;
 mod docket;
