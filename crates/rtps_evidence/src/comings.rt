@@ -170,10 +170,13 @@ impl Comings {
         self.claimed.contains_key(&pair)
     }
 
-    /// The datagram in which a reader, or a participant, that joins at a place leaves; None where it does not.
-    pub fn left(&self, reader: Guid, place: Location) -> Option<u64>
-        ensures { (announcing acts : List placed_spec.PlacedValue) → comings_spec.AreComings announcing acts self.now → result ≡ spans.left_in (Some place) reader acts }
+    /// The datagram in which a reader, or a participant, leaves that joins at a place, if it does; None where it does not.
+    pub fn left(&self, reader: Guid, joined: Option<Location>) -> Option<u64>
+        ensures { (announcing acts : List placed_spec.PlacedValue) → comings_spec.AreComings announcing acts self.now → result ≡ spans.left_in joined reader acts }
     {
-        self.departures.left(reader, place)
+        match joined {
+            Some(place) => self.departures.left(reader, place),
+            None => None,
+        }
     }
 }
