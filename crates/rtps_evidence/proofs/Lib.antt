@@ -23,6 +23,7 @@ pub mod GoneLemmas
 pub mod QuestionedLemmas
 pub mod SilenceLemmas
 pub mod SpanLemmas
+pub mod ComingLemmas
 pub mod NewcomerLemmas
 pub mod OutcomeLemmas
 pub mod ClaimedThen

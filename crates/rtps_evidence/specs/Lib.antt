@@ -12,6 +12,7 @@ pub mod CountedAnswers
 pub mod LastAsks
 pub mod Requests
 pub mod Spans
+pub mod Comings
 pub mod Newcomers
 pub mod Outcomes
 pub mod UnansweredLaw

@@ -12,6 +12,7 @@ ghost use Rattle.rtps_evidence.specs.Evidence as evidence;
 ghost use Rattle.rtps_evidence.specs.ReaderNotes as reader_notes;
 ghost use Rattle.rtps_evidence.specs.Spans as spans;
 
+use crate::coming::Coming;
 use crate::exchange::{Exchange, Extent};
 use crate::reader_notes::ReaderNotes;
 use crate::span::Span;
@@ -49,7 +50,7 @@ pub(crate) fn span_of(index: &Index<'_>, readers: &ReaderNotes, pair: Pair, exte
     if extent.in_spans {
         Span::of(index, readers, pair, extent.from)
     } else {
-        Span::whole(index, pair, extent.from)
+        Span::whole(&Coming::of(index, pair), extent.from)
     }
 }
 

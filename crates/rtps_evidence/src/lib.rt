@@ -9,8 +9,11 @@ mod brief;
 mod brought;
 mod case;
 mod claimed;
+mod coming;
+mod comings;
 mod counted_answers;
 mod datagram_times;
+mod departures;
 mod docket;
 mod ear;
 mod evidence;
@@ -66,6 +69,9 @@ mod window;
 mod words;
 
 pub use acknowledgement::{Claim, acknowledges};
+pub use coming::Coming;
+pub use comings::Comings;
+pub use departures::Leaver;
 pub use evidence::Evidence;
 pub use exchange::Extent;
 pub use explanation::{

@@ -1,20 +1,25 @@
 ghost use Rattle.std.specs.Prelude.{ℕ, ◌≡◌, ◌≤◌, ◌<◌, ◌^◌, ◌++◌, ◌∷◌, [], filter, map, IfSome, List};
 ghost use Rattle.std.specs.List.{find, list_any};
 ghost use Rattle.std.specs.Option.{option_map};
+ghost use Rattle.rtps_discovery.specs.Directory as directory_spec;
+ghost use Rattle.rtps_discovery.specs.declared.matching.Pair.{Pair as PairValue};
 ghost use Rattle.rtps_receiver.specs.Said as said;
 ghost use Rattle.rtps_audit.specs.Index as index_spec;
-ghost use Rattle.rtps_audit.specs.Intake as intake;
+ghost use Rattle.rtps_audit.specs.Intake as intake_spec;
 ghost use Rattle.rtps_audit.specs.Placed as placed_spec;
+ghost use Rattle.rtps_evidence.specs.Comings as comings_spec;
 ghost use Rattle.rtps_evidence.specs.Missed as missed;
 ghost use Rattle.rtps_evidence.specs.Newcomers as newcomers;
 ghost use Rattle.rtps_evidence.specs.ReaderNotes as reader_notes;
 ghost use Rattle.rtps_evidence.specs.Spans as spans;
 
+use crate::coming::Coming;
+use crate::comings::Comings;
 use crate::location::{Location, is_behind};
 use crate::newcomer::{Newcomer, Owing, lesser};
 use crate::reader_notes::ReaderNotes;
-use rtps_audit::{AnnouncedPlace, Answer, FirstAsked, Index, Placed};
-use rtps_discovery::{Durability, Pair, leaves, leaving_writers};
+use rtps_audit::{FirstAsked, Index, Placed};
+use rtps_discovery::{Directory, Durability, Pair, leaves, leaving_writers};
 use rtps_ids::{Guid, SeqNum};
 use rtps_receiver::Numbers;
 
@@ -40,27 +45,6 @@ pub(crate) struct Spanning {
     /// The reader, where it joins in the recording.
     newcomer: Option<Newcomer>,
     owing: Owing,
-}
-
-/// Whether an answer claims some number, before a place.
-fn claims_at(answer: &Answer, place: Location) -> bool
-    ensures { result ≡ spans.claims_at_before place answer.now }
-{
-    let datagram = answer.datagram as u64;
-    let before = datagram < place.datagram || (datagram == place.datagram && answer.at < place.at);
-    before && answer.base > 1
-}
-
-/// Whether one of these answers of a pair does.
-fn claims_before(answers: &[Answer], place: Location) -> bool
-    ensures { result ≡ list_any (spans.claims_at_before place) answers.now }
-{
-    for answer in answers {
-        if claims_at(answer, place) {
-            return true;
-        }
-    }
-    false
 }
 
 /// The least of these numbers from `lo` on.
@@ -118,7 +102,7 @@ fn least_asked(acts: &[Placed<'_>], pair: Pair, lo: u64) -> Option<u64>
 /// The least number from `lo` on that the pair's reader asks its writer for. The acts of a reader that is known to ask for none are not gone
 /// through.
 fn least_asked_of(index: &Index<'_>, readers: &ReaderNotes, pair: Pair, lo: u64) -> Option<u64>
-    ensures least { (intake : intake.Intake) → index_spec.IsIndexBy intake index.now → reader_notes.AreNotes intake readers.now.notes
+    ensures least { (intake : intake_spec.Intake) → index_spec.IsIndexBy intake index.now → reader_notes.AreNotes intake readers.now.notes
         → spans.IsLeastFrom (λ n. list_any (missed.asks_for pair.writer pair.reader n) (filter (placed_spec.is_from pair.reader) (placed_spec.placed_in intake.acts))) lo result }
     ensures high { IfSome result (λ number. lo ≤ number) }
     ensures in_range { IfSome result (λ number. number < 2 ^ 63) }
@@ -142,10 +126,10 @@ fn is_lowest(durability: Durability) -> bool
 }
 
 /// Whether a reader, all of whose announcements agree, has it.
-fn is_volatile(index: &Index<'_>, reader: Guid) -> bool
-    ensures { (intake : intake.Intake) → index_spec.IsIndexBy intake index.now → spans.IsVolatileIn intake reader result }
+fn is_volatile(directory: &Directory<'_>, reader: Guid) -> bool
+    ensures { (intake : intake_spec.Intake) → directory_spec.IsMapOf (intake_spec.acts_together intake.announcing) directory.now → spans.IsVolatileIn intake reader result }
 {
-    match index.directory().endpoint(reader) {
+    match directory.endpoint(reader) {
         Some(endpoint) => is_lowest(endpoint.durability),
         None => false,
     }
@@ -153,7 +137,7 @@ fn is_volatile(index: &Index<'_>, reader: Guid) -> bool
 
 /// The least number that is owed to a newcomer, which the writer's acts tell: the least that is for it, of those that may be owed.
 fn first_owed(index: &Index<'_>, readers: &ReaderNotes, newcomer: &Newcomer, owing: &Owing) -> u64
-    ensures first { (intake : intake.Intake) → index_spec.IsIndexBy intake index.now → reader_notes.AreNotes intake readers.now.notes
+    ensures first { (intake : intake_spec.Intake) → index_spec.IsIndexBy intake index.now → reader_notes.AreNotes intake readers.now.notes
         → newcomers.IsOwing newcomer.now (filter (placed_spec.is_from newcomer.now.pair.writer) (placed_spec.placed_in intake.acts)) owing.now
         → spans.IsFirstOwed (newcomers.owed_to newcomer.now owing.now) newcomer.now.place newcomer.now.pair (placed_spec.placed_in intake.acts) result }
     ensures positive { 1 ≤ result }
@@ -211,12 +195,22 @@ fn left_among(acts: &[Placed<'_>], reader: Guid, place: Location) -> Option<u64>
 
 /// The datagram in which a reader, or a participant, that joins at a place leaves; None where it does not.
 pub fn left_in(index: &Index<'_>, reader: Guid, place: Location) -> Option<u64>
-    ensures { (intake : intake.Intake) → index_spec.IsIndexBy intake index.now → result ≡ spans.left_in (Some place) reader (placed_spec.placed_in intake.acts) }
+    ensures { (intake : intake_spec.Intake) → index_spec.IsIndexBy intake index.now → result ≡ spans.left_in (Some place) reader (placed_spec.placed_in intake.acts) }
 {
     let (readers, participants) = leaving_writers(reader);
     let reader_left = left_among(index.acts_of(readers), reader, place);
     let participant_left = left_among(index.acts_of(participants), reader, place);
     lesser(reader_left, participant_left)
+}
+
+/// The same of one that joins at a place, if there is one.
+fn left_where(index: &Index<'_>, reader: Guid, joined: Option<Location>) -> Option<u64>
+    ensures { (intake : intake_spec.Intake) → index_spec.IsIndexBy intake index.now → result ≡ spans.left_in joined reader (placed_spec.placed_in intake.acts) }
+{
+    match joined {
+        Some(place) => left_in(index, reader, place),
+        None => None,
+    }
 }
 
 /// The number from which on a row is, of a newcomer, which the writer's acts tell.
@@ -227,7 +221,7 @@ fn first_number(
     newcomer: &Newcomer,
     owing: &Owing,
 ) -> FirstAsked
-    ensures { (intake : intake.Intake) → index_spec.IsIndexBy intake index.now → reader_notes.AreNotes intake readers.now.notes → spans.IsVolatileIn intake newcomer.now.pair.reader newcomer.now.is_volatile
+    ensures { (intake : intake_spec.Intake) → index_spec.IsIndexBy intake index.now → reader_notes.AreNotes intake readers.now.notes → spans.IsVolatileIn intake newcomer.now.pair.reader newcomer.now.is_volatile
         → newcomers.IsOwing newcomer.now (filter (placed_spec.is_from newcomer.now.pair.writer) (placed_spec.placed_in intake.acts)) owing.now
         → spans.IsFirstIn newcomer.now.from newcomer.now.place newcomer.now.pair intake result }
 {
@@ -237,39 +231,14 @@ fn first_number(
     }
 }
 
-/// The first of these places.
-fn first_place(places: &[AnnouncedPlace]) -> Option<Location>
-    ensures { result ≡ missed.first_place places.now }
-{
-    if places.is_empty() {
-        return None;
-    }
-    let first = &places[0];
-    Some(Location {
-        datagram: first.datagram as u64,
-        at: first.at,
-    })
-}
-
-/// Whether a reader that is announced first at a place, if there is one, joins there: it claims no number of the writer before.
-fn joins_here(index: &Index<'_>, pair: Pair, joined: Option<Location>) -> bool
-    ensures { (intake : intake.Intake) → index_spec.IsIndexBy intake index.now → result ≡ spans.is_joined_here joined pair (placed_spec.placed_in intake.acts) }
-{
-    match joined {
-        Some(place) => !claims_before(index.answers_of(pair), place),
-        None => false,
-    }
-}
-
 impl Span {
     /// The whole recording for a writer and a reader, by the numbers from `from` on.
-    pub(crate) fn whole(index: &Index<'_>, pair: Pair, from: SeqNum) -> Span
-        ensures { (intake : intake.Intake) → index_spec.IsIndexBy intake index.now → spans.IsWhole from pair intake result }
+    pub(crate) fn whole(coming: &Coming, from: SeqNum) -> Span
+        ensures { (pair : PairValue) (intake : intake_spec.Intake) → comings_spec.IsComing pair intake coming.now → spans.IsWhole from pair intake result }
     {
-        let joined = first_place(index.announced_at(pair.reader));
         Span {
-            joined,
-            is_joined_here: joins_here(index, pair, joined),
+            joined: coming.joined,
+            is_joined_here: coming.is_joined_here,
             from: FirstAsked::of(from),
             until: None,
         }
@@ -277,9 +246,12 @@ impl Span {
 
     /// The span of a writer and a reader, any two GUIDs, by the numbers from `from` on. It takes no memory.
     pub(crate) fn of(index: &Index<'_>, readers: &ReaderNotes, pair: Pair, from: SeqNum) -> Span
-        ensures { (intake : intake.Intake) → index_spec.IsIndexBy intake index.now → reader_notes.AreNotes intake readers.now.notes → spans.IsSpan from pair intake result }
+        ensures { (intake : intake_spec.Intake) → index_spec.IsIndexBy intake index.now → reader_notes.AreNotes intake readers.now.notes → spans.IsSpan from pair intake result }
     {
-        let mut spanning = Spanning::new(index, pair, from);
+        let whole = Span::whole(&Coming::of(index, pair), from);
+        let left = left_where(index, pair.reader, whole.joined);
+        let volatile = is_volatile(index.directory(), pair.reader);
+        let mut spanning = Spanning::new(pair, whole, left, volatile);
         if spanning.newcomer.is_none() {
             return spanning.span;
         }
@@ -302,8 +274,8 @@ impl Span {
 }
 
 /// The reader of a pair, of which this is the whole recording; None where it does not join in that.
-fn newcomer_of(index: &Index<'_>, pair: Pair, whole: &Span) -> Option<Newcomer>
-    ensures { (from : ℕ) (intake : intake.Intake) → index_spec.IsIndexBy intake index.now → spans.IsWhole from pair intake whole.now
+fn newcomer_of(pair: Pair, whole: &Span, volatile: bool) -> Option<Newcomer>
+    ensures { (from : ℕ) (intake : intake_spec.Intake) → spans.IsWhole from pair intake whole.now → spans.IsVolatileIn intake pair.reader volatile
         → newcomers.IsJoinedAs from whole.now.joined pair intake whole.now.is_joined_here result }
 {
     match whole.since() {
@@ -311,34 +283,48 @@ fn newcomer_of(index: &Index<'_>, pair: Pair, whole: &Span) -> Option<Newcomer>
             pair,
             place,
             from: whole.from,
-            is_volatile: is_volatile(index, pair.reader),
+            is_volatile: volatile,
         }),
         None => None,
     }
 }
 
 impl Spanning {
-    ghost use Rattle.rtps_discovery.specs.declared.matching.Pair.{Pair as PairValue};
-
-    /// The writer said nothing yet. It takes no memory.
-    pub(crate) fn new(index: &Index<'_>, pair: Pair, from: SeqNum) -> Spanning
-        ensures { (intake : intake.Intake) → index_spec.IsIndexBy intake index.now → newcomers.IsSpanning from pair intake [] result }
+    /// The writer said nothing yet. Its reader, of which this is the whole recording, leaves in this datagram, and is volatile or not. It takes
+    /// no memory.
+    pub(crate) fn new(pair: Pair, whole: Span, left: Option<u64>, volatile: bool) -> Spanning
+        ensures { (from : ℕ) (intake : intake_spec.Intake) → spans.IsWhole from pair intake whole → left ≡ spans.left_in whole.joined pair.reader (placed_spec.placed_in intake.acts)
+            → spans.IsVolatileIn intake pair.reader volatile → newcomers.IsSpanning from pair intake [] result }
     {
-        let whole = Span::whole(index, pair, from);
-        let until = match whole.joined {
-            Some(place) => left_in(index, pair.reader, place),
-            None => None,
-        };
         Spanning {
-            span: Span { until, ..whole },
-            newcomer: newcomer_of(index, pair, &whole),
+            span: Span {
+                until: left,
+                ..whole
+            },
+            newcomer: newcomer_of(pair, &whole, volatile),
             owing: Owing::new(),
         }
     }
 
+    /// The same of a writer and a reader, any two GUIDs, by the numbers from `from` on, where it is known when readers come and go and what is
+    /// announced.
+    pub(crate) fn of(
+        comings: &Comings,
+        directory: &Directory<'_>,
+        pair: Pair,
+        from: SeqNum,
+    ) -> Spanning
+        ensures { (intake : intake_spec.Intake) → comings_spec.AreComings (placed_spec.placed_in intake.announcing) (placed_spec.placed_in intake.acts) comings.now
+            → directory_spec.IsMapOf (intake_spec.acts_together intake.announcing) directory.now → newcomers.IsSpanning from pair intake [] result }
+    {
+        let whole = Span::whole(&comings.coming(pair), from);
+        let left = comings.left(pair.reader, whole.joined);
+        Spanning::new(pair, whole, left, is_volatile(directory, pair.reader))
+    }
+
     /// Is told the next act of the writer.
     pub(crate) fn hear(&mut self, placed: &Placed<'_>)
-        ensures { (from : ℕ) (pair : PairValue) (intake : intake.Intake) (acts : List placed_spec.PlacedValue) → newcomers.IsSpanning from pair intake acts self.old
+        ensures { (from : ℕ) (pair : PairValue) (intake : intake_spec.Intake) (acts : List placed_spec.PlacedValue) → newcomers.IsSpanning from pair intake acts self.old
             → newcomers.IsSpanning from pair intake (acts ++ placed_spec.placed_value placed.now ∷ []) self.new }
     {
         if let Some(newcomer) = &self.newcomer {
@@ -348,7 +334,7 @@ impl Spanning {
 
     /// The span, where all acts of the writer were told.
     pub(crate) fn span(&self, index: &Index<'_>, readers: &ReaderNotes) -> Span
-        ensures { (from : ℕ) (pair : PairValue) (intake : intake.Intake) → index_spec.IsIndexBy intake index.now → reader_notes.AreNotes intake readers.now.notes
+        ensures { (from : ℕ) (pair : PairValue) (intake : intake_spec.Intake) → index_spec.IsIndexBy intake index.now → reader_notes.AreNotes intake readers.now.notes
             → newcomers.IsSpanning from pair intake (filter (placed_spec.is_from pair.writer) (placed_spec.placed_in intake.acts)) self.now → spans.IsSpan from pair intake result }
     {
         match &self.newcomer {

@@ -8,10 +8,15 @@ use Rattle.rtps_evidence.proofs.RequestLemmas.{taken_more}
 use Rattle.rtps_evidence.proofs.span.Span.of.Goals as goal
 
 pub returns-then-is_none : goal.returns-then-is_none
-returns-then-is_none c = λ intake is notes. span_elsewhere c.args.from c.args.pair intake [] c.new-spanning.result (none_there c.new-spanning.result.newcomer (c.is_none.ensures ∙ ap not c.if-is_none.true)) (c.new-spanning.ensures intake is)
+returns-then-is_none c = λ intake is notes.
+    let whole = c.whole-whole.ensures c.args.pair intake (c.of.ensures intake is) in
+    span_elsewhere c.args.from c.args.pair intake [] c.new-spanning.result (none_there c.new-spanning.result.newcomer (c.is_none.ensures ∙ ap not c.if-is_none.true))
+    (c.new-spanning.ensures c.args.from intake whole (c.left_where-left.ensures intake is) (c.is_volatile-volatile.ensures intake (c.directory.ensures intake is)))
 
 pub loop-placed-init : goal.loop-placed-init
-loop-placed-init c = λ intake is. c.new-spanning.ensures intake is
+loop-placed-init c = λ intake is.
+    let whole = c.whole-whole.ensures c.args.pair intake (c.of.ensures intake is) in
+    c.new-spanning.ensures c.args.from intake whole (c.left_where-left.ensures intake is) (c.is_volatile-volatile.ensures intake (c.directory.ensures intake is))
 
 pub loop-placed-preserved : goal.loop-placed-preserved
 loop-placed-preserved c = λ intake is.
