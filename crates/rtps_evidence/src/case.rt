@@ -74,13 +74,13 @@ impl<'s, 'a> Case<'s, 'a> {
     /// The evidence, where all acts are heard again, which are these. `Memory` is answered where what is kept cannot grow.
     pub(crate) fn found(self, alloc: Global, acts: &[Placed<'a>]) -> Result<Found<'a>, Memory>
         ensures judged { IfOk result (λ found. found.evidence.verdict ≡ self.entry.brief.verdict) }
-        ensures shown { (recording : List (List values.ActValue)) (there : ℕ → Bool) → map placed_spec.placed_value acts.now ≡ filter (placed_spec.is_from self.entry.brief.exchange.writer) (placed_spec.placed_in recording)
+        ensures shown { (recording : List (List values.ActValue)) (there : ℕ → Bool) → map placed_spec.placed_value acts.now ≡ filter (placed_spec.is_from self.entry.brief.exchange.pair.writer) (placed_spec.placed_in recording)
             → replies.AreReplies self.entry.brief.exchange.pair recording self.entry.brief.exchange.replies
             → run_verdict.IsVerdictFrom self.entry.brief.exchange.span.from (speech.speech_by self.entry.brief.exchange.pair.writer self.entry.brief.exchange.pair.reader recording) self.entry.brief.verdict
             → ((n : ℕ) → stretches.stretches_have self.entry.brief.exchange.there.now n ≡ there n)
             → cases.IsCase (map placed_spec.placed_value acts.now) (map placed_spec.placed_value acts.now) self.entry
             → IfOk result (λ found. evidence_spec.IsShown there self.entry.brief.exchange.span.from (spans.since_of self.entry.brief.exchange.span) self.entry.brief.exchange.pair recording found.evidence) }
-        ensures beside { (all recording : List (List values.ActValue)) (beside : other_side.Beside) → map placed_spec.placed_value acts.now ≡ filter (placed_spec.is_from self.entry.brief.exchange.writer) (placed_spec.placed_in recording)
+        ensures beside { (all recording : List (List values.ActValue)) (beside : other_side.Beside) → map placed_spec.placed_value acts.now ≡ filter (placed_spec.is_from self.entry.brief.exchange.pair.writer) (placed_spec.placed_in recording)
             → replies.AreReplies self.entry.brief.exchange.pair recording self.entry.brief.exchange.replies
             → run_verdict.IsVerdictFrom self.entry.brief.exchange.span.from (speech.speech_by self.entry.brief.exchange.pair.writer self.entry.brief.exchange.pair.reader recording) self.entry.brief.verdict
             → other_side.AreThere all beside.other self.entry.brief.exchange.pair self.entry.brief.exchange.way self.entry.brief.exchange.is_held self.entry.brief.exchange.there.now

@@ -98,6 +98,14 @@ impl<'p> Found<'p> {
     }
 }
 
+/// Whether one of a pair sends fragments, where these are the acts of the two.
+fn send_fragments(acts: &[Placed<'_>], asks: &[Placed<'_>]) -> bool
+    ensures acts { result ≡ false → hearing.have_fragments (map placed.placed_value acts.now) ≡ false }
+    ensures asks { result ≡ false → hearing.have_fragments (map placed.placed_value asks.now) ≡ false }
+{
+    have_fragments(acts) || have_fragments(asks)
+}
+
 impl<'a> Evidence<'a> {
     ghost use Rattle.rtps_evidence.specs.Evidence as evidence_spec;
     ghost use Rattle.rtps_evidence.specs.Kinds as kinds;
@@ -161,7 +169,7 @@ impl<'a> Evidence<'a> {
             there: &docket.arrivals.numbers,
             times: sides.times,
         };
-        if have_fragments(said.acts) || have_fragments(exchange.replies.asks) {
+        if send_fragments(said.acts, exchange.replies.asks) {
             let found = Evidence::of_fragments(alloc, sides.arena, &exchange, said.acts)?;
             return Ok(found);
         }

@@ -27,7 +27,7 @@ pub returns-then-answers_another : goal.returns-then-answers_another
 returns-then-answers_another c = λ recording sent is n.
     let pair = c.args.exchange.now.pair in
     let placed = placed_spec.placed_in recording in
-    ap (λ l. stretches.stretches_have l n) c.new.ensures.items
+    ap (λ l. stretches.stretches_have l n) c.new-then-answers_another.ensures.items
     ∙ never (stretches.stretches_have c.args.numbers.now n) (list_any (lost_answers.answers_another pair.writer pair.reader) placed) (missed.is_excused_by pair.writer pair.reader placed n (locations.find_last (lost_answers.lacks_by_answer pair.writer pair.reader n) placed))
     (sym (c.answers_another.ensures placed is.asks) ∙ c.if-answers_another.true)
 

@@ -34,8 +34,8 @@ found_of setting docket found is shown beside =
       };
     }
 
-pub returns-then-have_fragments : goal.returns-then-have_fragments
-returns-then-have_fragments c = λ setting sides docket.
+pub returns-then-send_fragments : goal.returns-then-send_fragments
+returns-then-send_fragments c = λ setting sides docket.
     let acts = setting.intake.acts in
     let kept = c.args.docket.now in
     let pair = kept.judgement.pair in
