@@ -20,7 +20,7 @@ pub heard_all : (start hearer : Hearer) (acts : List placed.PlacedValue) → cas
 heard_all start hearer acts told few none = subst (λ (b : Brief). heard.IsHeard b.exchange acts hearer.heard) (sym told.brief) (told.heard few none)
 
 -- what the reader of a brief lacks, where these are all acts of its writer
-Lacks : List placed.PlacedValue → Brief → AskedNumbers → List Stretch → Type 0
+abbrev Lacks : List placed.PlacedValue → Brief → AskedNumbers → List Stretch → Type 0
 Lacks all brief asked lacking =
     (recording : List (List values.ActValue)) → all ≡ filter (placed.is_from brief.exchange.pair.writer) (placed.placed_in recording) → replies.AreReplies brief.exchange.pair recording brief.exchange.replies
     → claimed.AreLacking asked.from asked.last brief.exchange.pair (placed.placed_in recording) lacking
