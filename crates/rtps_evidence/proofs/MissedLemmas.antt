@@ -71,21 +71,15 @@ unmet_by_request since pair placed n lacking known =
 -- ---- counted, and the least of them
 
 -- what is left of numbers that are missed are those that are missed and not there
-pub left_missed : (there : ℕ → Bool) (from last count : ℕ) (place : Option Location) (pair : Pair) (placed : List placed_spec.PlacedValue) (items beside left : List Stretch) (first : Option FirstMissed)
-    → ((n : ℕ) → from ≤ n → n ≤ last → stretches.stretches_have items n ≡ missed.is_missed place pair.writer pair.reader placed n) → ((n : ℕ) → stretches.stretches_have beside n ≡ there n)
-    → ((n : ℕ) → from ≤ n → n ≤ last → stretches.stretches_have left n ≡ (stretches.stretches_have items n && not (stretches.stretches_have beside n)))
+pub left_missed : (there : ℕ → Bool) (from last count : ℕ) (place : Option Location) (pair : Pair) (placed : List placed_spec.PlacedValue) (left : List Stretch) (first : Option FirstMissed)
+    → ((n : ℕ) → from ≤ n → n ≤ last → stretches.stretches_have left n ≡ missed.is_missed_for_good there place pair.writer pair.reader placed n)
     → count ≡ counts.count_in (stretches.stretches_have left) from (last + 1) → first ≡ missed.missed_by pair.writer pair.reader placed (received.least_in (stretches.stretches_have left) from (last + 1))
     → missed.AreMissed there from last place pair.writer pair.reader placed (record { count = count; first = first })
-left_missed there from last count place pair placed items beside left first is has lacks counted found = record {
+left_missed there from last count place pair placed left first same counted found = record {
   count = counted ∙ count_same (stretches.stretches_have left) (missed.is_missed_for_good there place pair.writer pair.reader placed) from (last + 1) (λ n low high. same n low (omega arith));
   first = found ∙ ap (missed.missed_by pair.writer pair.reader placed)
       (least_same (stretches.stretches_have left) (missed.is_missed_for_good there place pair.writer pair.reader placed) from (last + 1) (λ n low high. same n low (omega arith)));
 }
-  where
-    same : (n : ℕ) → from ≤ n → n ≤ last → stretches.stretches_have left n ≡ missed.is_missed_for_good there place pair.writer pair.reader placed n
-    same n low high =
-        lacks n low high ∙ ap (λ b. b && not (stretches.stretches_have beside n)) (is n low high)
-        ∙ ap (λ b. missed.is_missed place pair.writer pair.reader placed n && not b) (has n)
 
 -- ---- who asked for it last, and what told it gone since
 

@@ -150,10 +150,9 @@ reader_told setting writer start leaving acts few are ready told =
     let is = subst (together.IsBrief setting writer) (sym brief) ready.brief in
     let until : leaving.until ≡ leaving.ear.brief.exchange.span.until = told.0 ∙ ready.until ∙ sym (ap (λ (b : Brief). b.exchange.span.until) brief) in
     let le = not_more (ears.is_until start.until) acts in
-    let here : filter (ears.is_until start.until) acts ≡ together.acts_of leaving.ear.brief =
+    let here : filter (ears.is_until start.until) acts ≡ together.acts_of setting writer leaving.ear.brief =
     ap (filter (ears.is_until start.until)) are
-    ∙ ap (λ u. filter (ears.is_until u) (filter (placed.is_from writer) (placed.placed_in setting.intake.acts))) (sym told.0 ∙ until)
-    ∙ sym is.sent in
+    ∙ ap (λ u. filter (ears.is_until u) (filter (placed.is_from writer) (placed.placed_in setting.intake.acts))) (sym told.0 ∙ until) in
     record {
       until = until;
       brief = is;
@@ -168,14 +167,16 @@ pub case_told : (setting : together.Setting) (writer : Guid) (start leaving : Le
 case_told setting writer start leaving acts are opened told =
     let brief = told.1.brief in
     let is = subst (together.IsBrief setting writer) (sym brief) opened.brief in
-    let here : filter (ears.is_until start.until) acts ≡ together.acts_of leaving.ear.brief =
+    let here : filter (ears.is_until start.until) acts ≡ together.acts_of setting writer leaving.ear.brief =
     ap (filter (ears.is_until start.until)) are
-    ∙ ap (λ u. filter (ears.is_until u) (filter (placed.is_from writer) (placed.placed_in setting.intake.acts))) (opened.until ∙ sym (ap (λ (b : Brief). b.exchange.span.until) brief))
-    ∙ sym is.sent in
+    ∙ ap (λ u. filter (ears.is_until u) (filter (placed.is_from writer) (placed.placed_in setting.intake.acts))) (opened.until ∙ sym (ap (λ (b : Brief). b.exchange.span.until) brief)) in
+    let all = together.acts_of setting writer start.ear.brief in
+    let same : all ≡ together.acts_of setting writer leaving.ear.brief = ap (together.acts_of setting writer) (sym brief) in
     record {
       writer = writer;
       brief = is;
-      case = subst (λ l. cases.IsCase l leaving.ear) here (heard_again start.ear leaving.ear (filter (ears.is_until start.until) acts) told.1 opened.case);
+      case = subst (λ l. cases.IsCase (together.acts_of setting writer leaving.ear.brief) l leaving.ear) here
+          (subst (λ l. cases.IsCase l (filter (ears.is_until start.until) acts) leaving.ear) same (heard_again start.ear leaving.ear all (filter (ears.is_until start.until) acts) told.1 opened.case));
     }
 
 -- two briefs of the same parts

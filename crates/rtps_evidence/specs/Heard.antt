@@ -25,15 +25,15 @@ pub record IsAnnounced (writer : Guid) (acts : List placed.PlacedValue) (announc
 
 -- the longest wait by these acts of the writer, up to the end of what was said
 pub record IsLongest (exchange : Exchange) (acts : List placed.PlacedValue) (waiting : Waiting) : Type 0 where
-  pub answers : waiting.answers ≡ exchange.said.answers.now
+  pub answers : waiting.answers ≡ exchange.replies.answers.now
   pub longest : waiting.longest
-      ≡ waits.longest (waits.waits_of exchange.times.now.of_datagrams (times.end_of (said.datagrams_until exchange.span.until exchange.times.now.of_datagrams)) exchange.said.answers.now
+      ≡ waits.longest (waits.waits_of exchange.times.now.of_datagrams (times.end_of (said.datagrams_until exchange.span.until exchange.times.now.of_datagrams)) exchange.replies.answers.now
       (waits.questions_of (spans.since_of exchange.span) exchange.pair acts))
 
 -- it is what the reader heard by these acts of the writer: what was announced, of which numbers it heard, the longest wait, and how often it
 -- was asked since its last answer
 pub record IsHeard (exchange : Exchange) (acts : List placed.PlacedValue) (heard : Heard) : Type 0 where
   pub announced : IsAnnounced exchange.pair.writer acts heard.announced
-  pub numbers : claimed.AreHeard exchange.said.answers.now exchange.pair acts heard.numbers
+  pub numbers : claimed.AreHeard exchange.replies.answers.now exchange.pair acts heard.numbers
   pub wait : IsLongest exchange acts heard.wait
-  pub asked : questions.AreAsked (option_map questions.place_of (last_or None exchange.said.answers.now)) exchange.pair.writer exchange.pair.reader acts heard.asked
+  pub asked : questions.AreAsked (option_map questions.place_of (last_or None exchange.replies.answers.now)) exchange.pair.writer exchange.pair.reader acts heard.asked

@@ -18,6 +18,6 @@ use Rattle.rtps_evidence.specs.declared.ledger.Ledger.{Ledger}
 -- came since the reader is there, and how far it came with it in silence.
 pub record Stands (exchange : Exchange) (lacks : ℕ → Bool) (acts : List placed.PlacedValue) (ledger : Ledger) : Type 0 where
   pub requests : (n : ℕ) → get nat_cmp ledger.requests n
-      ≡ option_map (requests.met_among (spans.since_of exchange.span) exchange.pair n acts) (requests.requested exchange.pair (map placed.placed_value exchange.said.asks.now) lacks n)
+      ≡ option_map (requests.met_among (spans.since_of exchange.span) exchange.pair n acts) (requests.requested exchange.pair (map placed.placed_value exchange.replies.asks.now) lacks n)
   pub brought : (n : ℕ) → lacks n ≡ true → stretches.stretches_have ledger.brought.items n ≡ list_any (missed.brings_behind (spans.since_of exchange.span) exchange.pair.writer exchange.pair.reader n) acts
   pub silent : (n : ℕ) → lacks n ≡ true → silent_numbers.AreSilent exchange acts ledger.silent

@@ -33,6 +33,7 @@ pub mod Times
 pub mod DatagramTimes
 pub mod FrameNumbers
 pub mod Waits
+pub mod Replies
 pub mod Heard
 pub mod Ledger
 pub mod Cases

@@ -14,10 +14,10 @@ IsAtIn n silence silent = silences.IsAt n silence silent.questioned (stretches.s
 
 -- how far these acts of the writer, and the answers before each, bring n
 abbrev pub walked_by : Exchange → List placed.PlacedValue → ℕ → outcomes.Walk
-walked_by exchange acts n = outcomes.walked_all exchange.times.now.of_datagrams (spans.since_of exchange.span) exchange.pair n (record { answers = exchange.said.answers.now; silence = outcomes.Silence.Unasked }) acts
+walked_by exchange acts n = outcomes.walked_all exchange.times.now.of_datagrams (spans.since_of exchange.span) exchange.pair n (record { answers = exchange.replies.answers.now; silence = outcomes.Silence.Unasked }) acts
 
 -- they are what these acts leave
 pub record AreSilent (exchange : Exchange) (acts : List placed.PlacedValue) (silent : SilentNumbers) : Type 0 where
-  pub within : silent.passed ≤ length exchange.said.answers.now
-  pub answers : (n : ℕ) → (walked_by exchange acts n).answers ≡ drop silent.passed exchange.said.answers.now
+  pub within : silent.passed ≤ length exchange.replies.answers.now
+  pub answers : (n : ℕ) → (walked_by exchange acts n).answers ≡ drop silent.passed exchange.replies.answers.now
   pub at : (n : ℕ) → IsAtIn n (walked_by exchange acts n).silence silent

@@ -6,7 +6,6 @@ use Rattle.rtps_discovery.specs.declared.matching.Pair.{Pair}
 use Rattle.rtps_audit.specs.Intake as intake_spec
 use Rattle.rtps_audit.specs.Placed as placed
 use Rattle.rtps_audit.specs.RunVerdict as run_verdict
-use Rattle.rtps_audit.specs.Said as said
 use Rattle.rtps_audit.specs.Speech as speech
 use Rattle.rtps_fragments.specs.Hearing as hearing
 use Rattle.rtps_evidence.specs.Cases as cases
@@ -16,6 +15,7 @@ use Rattle.rtps_evidence.specs.Explanation as explanation
 use Rattle.rtps_evidence.specs.Heard as heard
 use Rattle.rtps_evidence.specs.Kinds as kinds
 use Rattle.rtps_evidence.specs.OtherSide as other_side
+use Rattle.rtps_evidence.specs.Replies as replies
 use Rattle.rtps_evidence.specs.Spans as spans_spec
 use Rattle.rtps_evidence.specs.declared.brief.Brief.{Brief}
 use Rattle.rtps_evidence.specs.declared.case.Case.{Case}
@@ -49,20 +49,21 @@ pub record IsDocket (setting : Setting) (docket : Docket) : Type 0 where
 abbrev pub is_plain : Setting → Guid → Type 0
 is_plain setting guid = hearing.have_fragments (filter (placed.is_from guid) (placed.placed_in setting.intake.acts)) ≡ false
 
--- what a pair of this writer said, where neither of the two sends fragments, and its verdict
+-- the acts of its writer that a pair is judged by
+abbrev pub acts_of : Setting → Guid → Brief → List placed.PlacedValue
+acts_of setting writer brief = filter (ears.is_until brief.exchange.span.until) (filter (placed.is_from writer) (placed.placed_in setting.intake.acts))
+
+-- what the reader of a pair of this writer said, where neither of the two sends fragments, and the verdict on the pair. The reader hears the
+-- acts of the writer as they are sent
 pub record IsBrief (setting : Setting) (writer : Guid) (brief : Brief) : Type 0 where
   pub of_writer : brief.exchange.pair.writer ≡ writer
   pub in_spans : brief.exchange.in_spans ≡ setting.spans
   pub extent : spans_spec.IsExtent setting.spans setting.from brief.exchange.pair setting.intake brief.exchange.span
-  pub sent : map placed.placed_value brief.exchange.said.acts.now ≡ filter (ears.is_until brief.exchange.span.until) (filter (placed.is_from writer) (placed.placed_in setting.intake.acts))
-  pub said : said.IsSaid brief.exchange.pair (spans_spec.heard_in brief.exchange.span brief.exchange.pair setting.intake.acts) brief.exchange.said
+  pub heard : acts_of setting writer brief ≡ filter (placed.is_from brief.exchange.pair.writer) (placed.placed_in (spans_spec.heard_in brief.exchange.span brief.exchange.pair setting.intake.acts))
+  pub replies : replies.AreReplies brief.exchange.pair (spans_spec.heard_in brief.exchange.span brief.exchange.pair setting.intake.acts) brief.exchange.replies
   pub judged : run_verdict.IsVerdictFrom brief.exchange.span.from (speech.speech_by brief.exchange.pair.writer brief.exchange.pair.reader (spans_spec.heard_in brief.exchange.span brief.exchange.pair setting.intake.acts)) brief.verdict
   pub there : other_side.AreThere setting.intake.acts setting.beside.other brief.exchange.pair brief.exchange.way brief.exchange.is_held brief.exchange.there.now
   pub times : brief.exchange.times.now.of_datagrams ≡ setting.beside.times
-
--- the acts of its writer that a pair is judged by
-abbrev pub acts_of : Brief → List placed.PlacedValue
-acts_of brief = map placed.placed_value brief.exchange.said.acts.now
 
 -- a reader that heard nothing yet, and leaves where its row ends
 pub record IsReady (setting : Setting) (writer : Guid) (leaving : LeavingEar Hearer) : Type 0 where
@@ -74,19 +75,19 @@ pub record IsReady (setting : Setting) (writer : Guid) (leaving : LeavingEar Hea
 pub record IsTold (setting : Setting) (writer : Guid) (leaving : LeavingEar Hearer) : Type 0 where
   pub until : leaving.until ≡ leaving.ear.brief.exchange.span.until
   pub brief : IsBrief setting writer leaving.ear.brief
-  pub heard : heard.IsHeard leaving.ear.brief.exchange (acts_of leaving.ear.brief) leaving.ear.heard
+  pub heard : heard.IsHeard leaving.ear.brief.exchange (acts_of setting writer leaving.ear.brief) leaving.ear.heard
 
 -- a case that heard nothing again yet
 pub record IsOpened (setting : Setting) (writer : Guid) (leaving : LeavingEar Case) : Type 0 where
   pub until : leaving.until ≡ leaving.ear.brief.exchange.span.until
   pub brief : IsBrief setting writer leaving.ear.brief
-  pub case : cases.IsCase [] leaving.ear
+  pub case : cases.IsCase (acts_of setting writer leaving.ear.brief) [] leaving.ear
 
 -- one that heard all again
 pub record IsClosed (setting : Setting) (leaving : LeavingEar Case) : Type 0 where
   pub writer : Guid
   pub brief : IsBrief setting writer leaving.ear.brief
-  pub case : cases.IsCase (acts_of leaving.ear.brief) leaving.ear
+  pub case : cases.IsCase (acts_of setting writer leaving.ear.brief) (acts_of setting writer leaving.ear.brief) leaving.ear
 
 -- the pair of an ear
 abbrev pub reader_pair : LeavingEar Hearer → Pair

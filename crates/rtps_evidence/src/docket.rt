@@ -7,6 +7,7 @@ ghost use Rattle.rtps_evidence.specs.OtherSide as other_side;
 use crate::exchange::Exchange;
 use crate::judgement::Judgement;
 use crate::other_side::{Arrivals, Sides};
+use crate::replies::Replies;
 use rtps_audit::Said;
 use rtps_ids::Memory;
 use std::alloc::Global;
@@ -36,12 +37,23 @@ impl Docket {
     }
 
     /// What the pair said as it is sent, in the datagrams that its row is by.
-    pub(crate) fn exchange<'s, 'a>(&'s self, sides: &Sides<'s, 'a, '_, '_>) -> Exchange<'s, 'a>
+    pub(crate) fn said<'s, 'a>(&self, sides: &Sides<'s, 'a, '_, '_>) -> Said<'s, 'a>
+        ensures { (intake : intake.Intake) → index_spec.IsIndexBy intake sides.now.index.now
+            → said.IsSaid self.now.judgement.pair (said.datagrams_until self.now.judgement.span.until intake.acts) result }
+    {
+        Said::until(sides.index, self.judgement.pair, self.judgement.span.until)
+    }
+
+    /// What is known before its writer is heard, where this is what its reader said.
+    pub(crate) fn exchange<'s, 'a>(
+        &'s self,
+        sides: &Sides<'s, 'a, '_, '_>,
+        replies: Replies<'s, 'a>,
+    ) -> Exchange<'s, 'a>
         ensures pair { result.pair ≡ self.now.judgement.pair }
         ensures span { result.span ≡ self.now.judgement.span }
         ensures in_spans { result.in_spans ≡ self.now.judgement.in_spans }
-        ensures said { (intake : intake.Intake) → index_spec.IsIndexBy intake sides.now.index.now
-            → said.IsSaid self.now.judgement.pair (said.datagrams_until self.now.judgement.span.until intake.acts) result.said }
+        ensures replies { result.replies ≡ replies.entry }
         ensures way { result.way ≡ self.now.arrivals.way }
         ensures held { result.is_held ≡ self.now.arrivals.is_held }
         ensures there { result.there.now ≡ self.now.arrivals.numbers.items }
@@ -51,7 +63,7 @@ impl Docket {
             pair: self.judgement.pair,
             span: self.judgement.span,
             in_spans: self.judgement.in_spans,
-            said: Said::until(sides.index, self.judgement.pair, self.judgement.span.until),
+            replies,
             way: self.arrivals.way,
             is_held: self.arrivals.is_held,
             there: &self.arrivals.numbers,

@@ -1,10 +1,9 @@
-ghost use Rattle.std.specs.Prelude.{ℕ, Bool, false, ◌≡◌, map, IfOk, IfSome, List};
+ghost use Rattle.std.specs.Prelude.{ℕ, Bool, false, ◌≡◌, filter, map, IfOk, IfSome, List};
 ghost use Rattle.rtps_receiver.specs.Values as values;
 ghost use Rattle.rtps_audit.specs.Index as index_spec;
 ghost use Rattle.rtps_audit.specs.Intake as intake;
 ghost use Rattle.rtps_audit.specs.Placed as placed;
 ghost use Rattle.rtps_audit.specs.RunVerdict as run_verdict;
-ghost use Rattle.rtps_audit.specs.Said as said;
 ghost use Rattle.rtps_audit.specs.Speech as speech;
 ghost use Rattle.rtps_coverage.specs.Stretches as stretches;
 ghost use Rattle.rtps_fragments.specs.Hearing as hearing;
@@ -24,9 +23,10 @@ use crate::last_announcement::Announcement;
 use crate::not_received::NotReceived;
 use crate::other_side::Sides;
 use crate::reader_notes::ReaderNotes;
+use crate::replies::Replies;
 use crate::times::Times;
 use bumpalo::Bump;
-use rtps_audit::{Index, Said, Verdict};
+use rtps_audit::{Index, Placed, Verdict};
 use rtps_discovery::Pair;
 use rtps_fragments::laws::{pairs_are_heard_without_fragments, verdicts_stay_without_fragments};
 use rtps_fragments::{have_fragments, heard_said};
@@ -98,10 +98,19 @@ impl<'p> Found<'p> {
     }
 }
 
+/// Whether one of a pair sends fragments, where these are the acts of the two.
+fn send_fragments(acts: &[Placed<'_>], asks: &[Placed<'_>]) -> bool
+    ensures acts { result ≡ false → hearing.have_fragments (map placed.placed_value acts.now) ≡ false }
+    ensures asks { result ≡ false → hearing.have_fragments (map placed.placed_value asks.now) ≡ false }
+{
+    have_fragments(acts) || have_fragments(asks)
+}
+
 impl<'a> Evidence<'a> {
     ghost use Rattle.rtps_evidence.specs.Evidence as evidence_spec;
     ghost use Rattle.rtps_evidence.specs.Kinds as kinds;
     ghost use Rattle.rtps_evidence.specs.OtherSide as other_side;
+    ghost use Rattle.rtps_evidence.specs.Replies as replies;
     ghost use Rattle.rtps_evidence.specs.Spans as spans;
     ghost use Rattle.rtps_evidence.specs.Together as together;
 
@@ -149,61 +158,41 @@ impl<'a> Evidence<'a> {
         ensures { (setting : together.Setting) → together.AreSidesIn setting sides.now → together.IsDocket setting docket.now
             → IfOk result (together.IsFound setting docket.now.judgement.pair) }
     {
+        let said = docket.said(sides);
         let exchange = Exchange {
             pair: docket.judgement.pair,
             span: docket.judgement.span,
             in_spans: docket.judgement.in_spans,
-            said: Said::until(
-                sides.index,
-                docket.judgement.pair,
-                docket.judgement.span.until,
-            ),
+            replies: Replies::of(&said),
             way: docket.arrivals.way,
             is_held: docket.arrivals.is_held,
             there: &docket.arrivals.numbers,
             times: sides.times,
         };
-        let found = Evidence::of_said(alloc, sides.arena, &exchange, docket.judgement.known)?;
+        if send_fragments(said.acts, exchange.replies.asks) {
+            let found = Evidence::of_fragments(alloc, sides.arena, &exchange, said.acts)?;
+            return Ok(found);
+        }
+        let found = Evidence::of_sent(alloc, &exchange, said.acts, docket.judgement.known)?;
         Ok(found)
     }
 
-    /// The evidence for what a pair said as it is sent, where the verdict by that may be known. `Memory` as of [`Evidence::of_from`].
-    fn of_said(
-        alloc: Global,
-        arena: &'a Bump,
-        exchange: &Exchange<'_, 'a>,
-        known: Option<Verdict>,
-    ) -> Result<Found<'a>, Memory>
-        ensures shown { (recording : List (List values.ActValue)) (there : ℕ → Bool) → said.IsSaid exchange.now.pair recording exchange.now.said
-            → IfSome known (run_verdict.IsVerdictFrom exchange.now.span.from (speech.speech_by exchange.now.pair.writer exchange.now.pair.reader recording))
-            → ((n : ℕ) → stretches.stretches_have exchange.now.there.now n ≡ there n)
-            → IfOk result (λ found. evidence_spec.IsShown there exchange.now.span.from (spans.since_of exchange.now.span) exchange.now.pair (hearing.heard_by exchange.now.pair.reader recording) found.evidence) }
-        ensures beside { (all recording : List (List values.ActValue)) (beside : other_side.Beside) → said.IsSaid exchange.now.pair recording exchange.now.said
-            → IfSome known (run_verdict.IsVerdictFrom exchange.now.span.from (speech.speech_by exchange.now.pair.writer exchange.now.pair.reader recording))
-            → other_side.AreThere all beside.other exchange.now.pair exchange.now.way exchange.now.is_held exchange.now.there.now → exchange.now.times.now.of_datagrams ≡ beside.times
-            → IfOk result (λ found. evidence_spec.IsBeside exchange.now.in_spans beside exchange.now.span exchange.now.pair all (hearing.heard_by exchange.now.pair.reader recording) found.evidence.in_span
-            × kinds.IsLostIn exchange.now.in_spans beside exchange.now.span exchange.now.pair all (hearing.heard_by exchange.now.pair.reader recording) (kinds.lost_value found.lost)) }
-    {
-        if have_fragments(exchange.said.acts) || have_fragments(exchange.said.asks) {
-            Evidence::of_fragments(alloc, arena, exchange)
-        } else {
-            Evidence::of_sent(alloc, exchange, known)
-        }
-    }
-
-    /// That where neither of the pair sends fragments: its reader hears what is sent.
+    /// That by the acts of the writer, where neither of the pair sends fragments: its reader hears what is sent. The verdict may be known.
     fn of_sent(
         alloc: Global,
         exchange: &Exchange<'_, 'a>,
+        acts: &[Placed<'a>],
         known: Option<Verdict>,
     ) -> Result<Found<'a>, Memory>
-        requires acts { hearing.have_fragments (map placed.placed_value exchange.now.said.acts.now) ≡ false }
-        requires asks { hearing.have_fragments (map placed.placed_value exchange.now.said.asks.now) ≡ false }
-        ensures shown { (recording : List (List values.ActValue)) (there : ℕ → Bool) → said.IsSaid exchange.now.pair recording exchange.now.said
+        requires acts { hearing.have_fragments (map placed.placed_value acts.now) ≡ false }
+        requires asks { hearing.have_fragments (map placed.placed_value exchange.now.replies.asks.now) ≡ false }
+        ensures shown { (recording : List (List values.ActValue)) (there : ℕ → Bool) → map placed.placed_value acts.now ≡ filter (placed.is_from exchange.now.pair.writer) (placed.placed_in recording)
+            → replies.AreReplies exchange.now.pair recording exchange.now.replies
             → IfSome known (run_verdict.IsVerdictFrom exchange.now.span.from (speech.speech_by exchange.now.pair.writer exchange.now.pair.reader recording))
             → ((n : ℕ) → stretches.stretches_have exchange.now.there.now n ≡ there n)
             → IfOk result (λ found. evidence_spec.IsShown there exchange.now.span.from (spans.since_of exchange.now.span) exchange.now.pair (hearing.heard_by exchange.now.pair.reader recording) found.evidence) }
-        ensures beside { (all recording : List (List values.ActValue)) (beside : other_side.Beside) → said.IsSaid exchange.now.pair recording exchange.now.said
+        ensures beside { (all recording : List (List values.ActValue)) (beside : other_side.Beside) → map placed.placed_value acts.now ≡ filter (placed.is_from exchange.now.pair.writer) (placed.placed_in recording)
+            → replies.AreReplies exchange.now.pair recording exchange.now.replies
             → IfSome known (run_verdict.IsVerdictFrom exchange.now.span.from (speech.speech_by exchange.now.pair.writer exchange.now.pair.reader recording))
             → other_side.AreThere all beside.other exchange.now.pair exchange.now.way exchange.now.is_held exchange.now.there.now → exchange.now.times.now.of_datagrams ≡ beside.times
             → IfOk result (λ found. evidence_spec.IsBeside exchange.now.in_spans beside exchange.now.span exchange.now.pair all (hearing.heard_by exchange.now.pair.reader recording) found.evidence.in_span
@@ -212,55 +201,64 @@ impl<'a> Evidence<'a> {
         // What is sent without fragments is heard as it is, and judged alike.
         pairs_are_heard_without_fragments();
         verdicts_stay_without_fragments();
-        let verdict = verdict_of(alloc, exchange, known)?;
-        Evidence::of_exchange(alloc, exchange, verdict)
+        let verdict = verdict_of(alloc, exchange, acts, known)?;
+        Evidence::of_exchange(alloc, exchange, acts, verdict)
     }
 
-    /// That where one of the pair sends fragments: the samples that its reader puts together are kept while its evidence is found.
+    /// That by the acts of the writer, where one of the pair sends fragments: the samples that its reader puts together are kept while its evidence is found.
     fn of_fragments(
         alloc: Global,
         arena: &'a Bump,
         exchange: &Exchange<'_, 'a>,
+        acts: &[Placed<'a>],
     ) -> Result<Found<'a>, Memory>
-        ensures shown { (recording : List (List values.ActValue)) (there : ℕ → Bool) → said.IsSaid exchange.now.pair recording exchange.now.said
+        ensures shown { (recording : List (List values.ActValue)) (there : ℕ → Bool) → map placed.placed_value acts.now ≡ filter (placed.is_from exchange.now.pair.writer) (placed.placed_in recording)
+            → replies.AreReplies exchange.now.pair recording exchange.now.replies
             → ((n : ℕ) → stretches.stretches_have exchange.now.there.now n ≡ there n)
             → IfOk result (λ found. evidence_spec.IsShown there exchange.now.span.from (spans.since_of exchange.now.span) exchange.now.pair (hearing.heard_by exchange.now.pair.reader recording) found.evidence) }
-        ensures beside { (all recording : List (List values.ActValue)) (beside : other_side.Beside) → said.IsSaid exchange.now.pair recording exchange.now.said
+        ensures beside { (all recording : List (List values.ActValue)) (beside : other_side.Beside) → map placed.placed_value acts.now ≡ filter (placed.is_from exchange.now.pair.writer) (placed.placed_in recording)
+            → replies.AreReplies exchange.now.pair recording exchange.now.replies
             → other_side.AreThere all beside.other exchange.now.pair exchange.now.way exchange.now.is_held exchange.now.there.now → exchange.now.times.now.of_datagrams ≡ beside.times
             → IfOk result (λ found. evidence_spec.IsBeside exchange.now.in_spans beside exchange.now.span exchange.now.pair all (hearing.heard_by exchange.now.pair.reader recording) found.evidence.in_span
             × kinds.IsLostIn exchange.now.in_spans beside exchange.now.span exchange.now.pair all (hearing.heard_by exchange.now.pair.reader recording) (kinds.lost_value found.lost)) }
     {
         let told = Bump::new(alloc);
-        let said = heard_said(alloc, &told, exchange.said, exchange.pair)?;
+        let said = heard_said(alloc, &told, exchange.said(acts), exchange.pair)?;
         let verdict = said.judge_from(alloc, exchange.pair, exchange.span.from)?;
-        let heard = Exchange { said, ..*exchange };
-        let found = Evidence::of_exchange(alloc, &heard, verdict)?;
+        let replies = Replies::of(&said);
+        let heard = Exchange {
+            replies,
+            ..*exchange
+        };
+        let found = Evidence::of_exchange(alloc, &heard, said.acts, verdict)?;
         found.kept(arena)
     }
 
-    /// The evidence for what a pair said. `Memory` as of [`Evidence::of_from`].
+    /// The evidence for what a pair said, where these are the acts of the writer. `Memory` as of [`Evidence::of_from`].
     pub(crate) fn of_exchange(
         alloc: Global,
         exchange: &Exchange<'_, 'a>,
+        acts: &[Placed<'a>],
         verdict: Verdict,
     ) -> Result<Found<'a>, Memory>
         ensures judged { IfOk result (λ found. found.evidence.verdict ≡ verdict) }
-        ensures shown { (recording : List (List values.ActValue)) (there : ℕ → Bool) → said.IsSaid exchange.now.pair recording exchange.now.said
+        ensures shown { (recording : List (List values.ActValue)) (there : ℕ → Bool) → map placed.placed_value acts.now ≡ filter (placed.is_from exchange.now.pair.writer) (placed.placed_in recording)
+            → replies.AreReplies exchange.now.pair recording exchange.now.replies
             → run_verdict.IsVerdictFrom exchange.now.span.from (speech.speech_by exchange.now.pair.writer exchange.now.pair.reader recording) verdict
             → ((n : ℕ) → stretches.stretches_have exchange.now.there.now n ≡ there n)
             → IfOk result (λ found. evidence_spec.IsShown there exchange.now.span.from (spans.since_of exchange.now.span) exchange.now.pair recording found.evidence) }
-        ensures beside { (all recording : List (List values.ActValue)) (beside : other_side.Beside) → said.IsSaid exchange.now.pair recording exchange.now.said
+        ensures beside { (all recording : List (List values.ActValue)) (beside : other_side.Beside) → map placed.placed_value acts.now ≡ filter (placed.is_from exchange.now.pair.writer) (placed.placed_in recording)
+            → replies.AreReplies exchange.now.pair recording exchange.now.replies
             → run_verdict.IsVerdictFrom exchange.now.span.from (speech.speech_by exchange.now.pair.writer exchange.now.pair.reader recording) verdict
             → other_side.AreThere all beside.other exchange.now.pair exchange.now.way exchange.now.is_held exchange.now.there.now → exchange.now.times.now.of_datagrams ≡ beside.times
             → IfOk result (λ found. evidence_spec.IsBeside exchange.now.in_spans beside exchange.now.span exchange.now.pair all recording found.evidence.in_span
             × kinds.IsLostIn exchange.now.in_spans beside exchange.now.span exchange.now.pair all recording (kinds.lost_value found.lost)) }
     {
-        let acts = exchange.said.acts;
         let mut hearer = Hearer::new(alloc, exchange, verdict)?;
         hear_all(&mut hearer, acts)?;
         let mut case = Case::of(alloc, hearer)?;
         hear_all(&mut case, acts)?;
-        let found = case.found(alloc)?;
+        let found = case.found(alloc, acts)?;
         Ok(found)
     }
 

@@ -1,11 +1,16 @@
-ghost use Rattle.std.specs.Prelude.{◌≡◌};
+ghost use Rattle.std.specs.Prelude.{◌≡◌, filter, map, List};
+ghost use Rattle.rtps_receiver.specs.Values as values;
+ghost use Rattle.rtps_audit.specs.Placed as placed;
+ghost use Rattle.rtps_audit.specs.Said as said_spec;
+ghost use Rattle.rtps_evidence.specs.Replies as replies_spec;
 ghost use Rattle.rtps_evidence.specs.Spans as spans_spec;
 
 use crate::listener::Listener;
+use crate::replies::Replies;
 use crate::span::Span;
 use crate::times::Times;
 use crate::way::Way;
-use rtps_audit::Said;
+use rtps_audit::{Placed, Said};
 use rtps_coverage::Stretch;
 use rtps_discovery::Pair;
 use rtps_ids::SeqNum;
@@ -19,14 +24,14 @@ pub struct Extent {
     pub in_spans: bool,
 }
 
-/// What a pair said to each other in the datagrams that its row is by.
+/// What the reader of a pair said in the datagrams that its row is by, and what else is known before its writer is heard.
 #[derive(Clone, Copy)]
 pub(crate) struct Exchange<'s, 'a> {
     pub(crate) pair: Pair,
     /// The span of the pair, where rows are in spans, or else the whole recording.
     pub(crate) span: Span,
     pub(crate) in_spans: bool,
-    pub(crate) said: Said<'s, 'a>,
+    pub(crate) replies: Replies<'s, 'a>,
     /// Which way round this recording and another one are for the pair.
     pub(crate) way: Option<Way>,
     /// Whether the pair is held against that.
@@ -44,6 +49,18 @@ impl<'s, 'a> Exchange<'s, 'a> {
         Exchange {
             pair: self.pair,
             ..*self
+        }
+    }
+
+    /// What the pair said, where these are the acts of its writer.
+    pub(crate) fn said(&self, acts: &'s [Placed<'a>]) -> Said<'s, 'a>
+        ensures { (recording : List (List values.ActValue)) → map placed.placed_value acts.now ≡ filter (placed.is_from self.now.pair.writer) (placed.placed_in recording)
+            → replies_spec.AreReplies self.now.pair recording self.now.replies → said_spec.IsSaid self.now.pair recording result }
+    {
+        Said {
+            acts,
+            answers: self.replies.answers,
+            asks: self.replies.asks,
         }
     }
 

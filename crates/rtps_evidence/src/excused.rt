@@ -1,27 +1,25 @@
-ghost use Rattle.std.specs.Prelude.{ℕ, true, ◌≡◌, ◌≤◌, ◌&&◌, ◌++◌, ◌∷◌, [], map, not, filter, IfOk, OnOk, List, Option};
+ghost use Rattle.std.specs.Prelude.{ℕ, true, ◌≡◌, ◌&&◌, ◌++◌, ◌∷◌, [], map, filter, IfOk, OnOk, List, Option};
 ghost use Rattle.std.specs.BTreeMap.{get};
 ghost use Rattle.std.specs.List.{list_any};
 ghost use Rattle.std.specs.Ordering.{nat_cmp};
 ghost use Rattle.rtps_receiver.specs.Values as values;
 ghost use Rattle.rtps_audit.specs.Placed as placed_spec;
-ghost use Rattle.rtps_audit.specs.Said as said_spec;
 ghost use Rattle.rtps_coverage.specs.Rising as rising;
 ghost use Rattle.rtps_coverage.specs.Stretches as stretches;
 ghost use Rattle.rtps_evidence.specs.LastAsks as last_asks_spec;
 ghost use Rattle.rtps_evidence.specs.LostAnswers as lost_answers;
 ghost use Rattle.rtps_evidence.specs.Missed as missed_spec;
+ghost use Rattle.rtps_evidence.specs.Replies as replies;
 ghost use Rattle.rtps_evidence.specs.declared.counted_answers.CountedAnswer.{CountedAnswer};
 ghost use Rattle.rtps_evidence.specs.declared.last_asks.LastAsk.{LastAsk as LastAskValue};
 
-use crate::amount::AskedNumbers;
 use crate::exchange::Exchange;
-use crate::kinds::without;
 use crate::last_asks::{LastAsk, last_asks};
 use crate::location::{is_behind, location_of};
 use crate::lost_answers::LostAnswers;
 use crate::questioned::push_if;
 use crate::said_to::said_to;
-use rtps_audit::{Placed, Said};
+use rtps_audit::Placed;
 use rtps_coverage::Stretch;
 use rtps_discovery::Pair;
 use rtps_ids::Memory;
@@ -95,19 +93,24 @@ impl Resends {
     }
 }
 
-/// Of these numbers: those that a lost answer excuses. Other numbers are not among them.
-fn excused_of(
+/// Of these numbers: those that a lost answer excuses, by the acts of the writer. Other numbers are not among them.
+pub(crate) fn excused_of(
     alloc: Global,
-    said: &Said<'_, '_>,
-    pair: Pair,
+    exchange: &Exchange<'_, '_>,
+    acts: &[Placed<'_>],
     numbers: &[Stretch],
 ) -> Result<Vec<Stretch>, Memory>
     requires { rising.AreRising numbers.now }
-    ensures { (recording : List (List values.ActValue)) → said_spec.IsSaid pair recording said.now
+    ensures { (recording : List (List values.ActValue)) → map placed_spec.placed_value acts.now ≡ filter (placed_spec.is_from exchange.now.pair.writer) (placed_spec.placed_in recording)
+        → replies.AreReplies exchange.now.pair recording exchange.now.replies
         → IfOk result (λ excused. (n : ℕ) → stretches.stretches_have excused.items n
-        ≡ (stretches.stretches_have numbers.now n && missed_spec.is_excused pair.writer pair.reader (placed_spec.placed_in recording) n)) }
+        ≡ (stretches.stretches_have numbers.now n && missed_spec.is_excused exchange.now.pair.writer exchange.now.pair.reader (placed_spec.placed_in recording) n)) }
 {
-    let asks = said.asks;
+    if numbers.is_empty() {
+        return Ok(Vec::new(alloc));
+    }
+    let pair = exchange.pair;
+    let asks = exchange.replies.asks;
     if answers_another(asks, pair) {
         return Ok(Vec::new(alloc));
     }
@@ -116,28 +119,8 @@ fn excused_of(
         answers: LostAnswers::of(alloc, asks, pair)?,
         excused: Vec::new(alloc),
     };
-    for placed in said.acts {
+    for placed in acts {
         resends.hear(placed, pair)?;
     }
     Ok(resends.excused)
-}
-
-/// Of the numbers that are asked for: those of these that no lost answer excuses. Other numbers may be among them.
-pub(crate) fn missed_of(
-    alloc: Global,
-    exchange: &Exchange<'_, '_>,
-    unmet: &[Stretch],
-    asked: &AskedNumbers,
-) -> Result<Vec<Stretch>, Memory>
-    requires { rising.AreRising unmet.now }
-    ensures { (recording : List (List values.ActValue)) → said_spec.IsSaid exchange.now.pair recording exchange.now.said
-        → IfOk result (λ missed. (n : ℕ) → asked.now.from ≤ n → n ≤ asked.now.last → stretches.stretches_have missed.items n
-        ≡ (stretches.stretches_have unmet.now n && not (missed_spec.is_excused exchange.now.pair.writer exchange.now.pair.reader (placed_spec.placed_in recording) n))) }
-{
-    if unmet.is_empty() {
-        return Ok(Vec::new(alloc));
-    }
-    let excused = excused_of(alloc, &exchange.said, exchange.pair, unmet)?;
-    let missed = without(alloc, unmet, &excused, asked)?;
-    Ok(missed)
 }

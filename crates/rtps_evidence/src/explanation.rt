@@ -21,7 +21,7 @@ use crate::reader_notes::ReaderNotes;
 use crate::times::Times;
 use crate::together::{are_plain, heard_together};
 use bumpalo::Bump;
-use rtps_audit::{Counts, Index, Row, Watch};
+use rtps_audit::{Counts, Index, Row, Said, Watch};
 use rtps_discovery::laws::one_map;
 use rtps_discovery::{Directory, Pair};
 use rtps_ids::{Guid, Memory};
@@ -127,16 +127,18 @@ impl<'a> ExplainedRows<'a> {
     fn add_cases(
         &mut self,
         alloc: Global,
-        directory: &Directory<'a>,
+        sides: &Sides<'_, 'a, '_, '_>,
         cases: Vec<LeavingEar<Case<'_, 'a>>>,
     ) -> Result<(), Memory>
-        ensures { OnOk result ((setting : together.Setting) (pairs : List PairValue) → directory_spec.IsMapOf (intake.acts_together setting.intake.announcing) directory.now
+        ensures { OnOk result ((setting : together.Setting) (pairs : List PairValue) → together.AreSidesIn setting sides.now
             → All (together.IsClosed setting) cases.entry.items
             → together.AreRows setting pairs self.old → together.AreRows setting (pairs ++ map together.case_pair cases.entry.items) self.new) }
     {
+        let directory = sides.index.directory();
         for case in cases {
             let pair = case.ear.brief.exchange.pair;
-            let found = case.ear.found(alloc)?;
+            let said = Said::until(sides.index, pair, case.ear.brief.exchange.span.until);
+            let found = case.ear.found(alloc, said.acts)?;
             self.add(directory, pair, found)?;
         }
         Ok(())
@@ -161,7 +163,7 @@ impl<'a> ExplainedRows<'a> {
         }
         let acts = sides.index.acts_of(writer);
         let cases = heard_together(alloc, sides, dockets, acts)?;
-        self.add_cases(alloc, sides.index.directory(), cases)?;
+        self.add_cases(alloc, sides, cases)?;
         Ok(())
     }
 }

@@ -1,10 +1,10 @@
-ghost use Rattle.std.specs.Prelude.{◌≡◌, ◌<◌, ◌^◌, ◌++◌, ◌∷◌, [], map, List, Some};
+ghost use Rattle.std.specs.Prelude.{◌≡◌, ◌<◌, ◌^◌, ◌++◌, ◌∷◌, [], filter, map, List, Some};
 ghost use Rattle.std.specs.Option.{option_map};
 ghost use Rattle.rtps_receiver.specs.Values as values;
 ghost use Rattle.rtps_audit.specs.Placed as placed_spec;
-ghost use Rattle.rtps_audit.specs.Said as said;
 ghost use Rattle.rtps_evidence.specs.Locations as locations;
 ghost use Rattle.rtps_evidence.specs.Missed as missed_spec;
+ghost use Rattle.rtps_evidence.specs.Replies as replies;
 
 use crate::exchange::Exchange;
 use crate::listener::brings;
@@ -135,14 +135,19 @@ impl FirstMissed {
     }
 }
 
-/// The number as one that is missed; None where the pair's reader never asks its writer for it.
-pub(crate) fn first_missed_at(exchange: &Exchange<'_, '_>, number: u64) -> Option<FirstMissed>
+/// The number as one that is missed, by the acts of the writer; None where the pair's reader never asks its writer for it.
+pub(crate) fn first_missed_at(
+    exchange: &Exchange<'_, '_>,
+    acts: &[Placed<'_>],
+    number: u64,
+) -> Option<FirstMissed>
     requires { number < 2 ^ 63 }
-    ensures { (recording : List (List values.ActValue)) → said.IsSaid exchange.now.pair recording exchange.now.said
+    ensures { (recording : List (List values.ActValue)) → map placed_spec.placed_value acts.now ≡ filter (placed_spec.is_from exchange.now.pair.writer) (placed_spec.placed_in recording)
+        → replies.AreReplies exchange.now.pair recording exchange.now.replies
         → result ≡ missed_spec.missed_by exchange.now.pair.writer exchange.now.pair.reader (placed_spec.placed_in recording) (Some number) }
 {
     let pair = exchange.pair;
-    let Some(asked) = last_asking(exchange.said.asks, pair, number) else {
+    let Some(asked) = last_asking(exchange.replies.asks, pair, number) else {
         return None;
     };
     let mut missed = FirstMissed {
@@ -152,7 +157,7 @@ pub(crate) fn first_missed_at(exchange: &Exchange<'_, '_>, number: u64) -> Optio
         gone: None,
         is_sent: false,
     };
-    for placed in exchange.said.acts {
+    for placed in acts {
         missed.hear(placed, pair);
     }
     Some(missed)

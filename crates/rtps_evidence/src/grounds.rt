@@ -1,11 +1,11 @@
 ghost use Rattle.std.specs.Prelude.{◌≡◌, ◌<◌, ◌^◌, filter, map, IfOk, List};
 ghost use Rattle.rtps_receiver.specs.Values as values;
 ghost use Rattle.rtps_audit.specs.Placed as placed;
-ghost use Rattle.rtps_audit.specs.Said as audit_said;
 ghost use Rattle.rtps_receiver.specs.Said as said;
 ghost use Rattle.rtps_evidence.specs.Grounds as grounds_spec;
 ghost use Rattle.rtps_evidence.specs.Locations as locations;
 ghost use Rattle.rtps_evidence.specs.Questions as questions_spec;
+ghost use Rattle.rtps_evidence.specs.Replies as replies;
 
 use crate::acknowledgement::{Claim, find_claim};
 use crate::exchange::Exchange;
@@ -131,18 +131,19 @@ fn conflict_grounds<'a>(acts: &[Placed<'a>], pair: Pair, number: u64) -> Grounds
     }
 }
 
-/// What a verdict rests on, where this is what the writer asked since the reader's last answer.
+/// What a verdict rests on, by the acts of the writer, where this is what it asked since the reader's last answer.
 pub(crate) fn grounds_of<'a>(
-    exchange: &Exchange<'_, 'a>,
+    exchange: &Exchange<'_, '_>,
+    acts: &[Placed<'a>],
     questions: &Questions,
     verdict: &Verdict,
 ) -> Grounds<'a>
-    ensures { (recording : List (List values.ActValue)) → audit_said.IsSaid exchange.now.pair recording exchange.now.said
+    ensures { (recording : List (List values.ActValue)) → map placed.placed_value acts.now ≡ filter (placed.is_from exchange.now.pair.writer) (placed.placed_in recording)
+        → replies.AreReplies exchange.now.pair recording exchange.now.replies
         → questions_spec.AreQuestions exchange.now.pair.writer exchange.now.pair.reader (placed.placed_in recording) questions.now
         → grounds_spec.grounds_value result ≡ grounds_spec.grounds_by verdict.now exchange.now.pair (placed.placed_in recording) }
 {
     let pair = exchange.pair;
-    let acts = exchange.said.acts;
     let number = number_of(verdict);
     match *verdict {
         Verdict::Complete { .. } => Grounds::Complete,
@@ -150,7 +151,7 @@ pub(crate) fn grounds_of<'a>(
         Verdict::Conflict { .. } => conflict_grounds(acts, pair, number),
         Verdict::Unfounded { datagram, .. } => Grounds::Unfounded {
             teller: find_teller(acts, pair, number),
-            claim: find_claim(exchange.said.answers, datagram, number),
+            claim: find_claim(exchange.replies.answers, datagram, number),
         },
     }
 }

@@ -35,8 +35,8 @@ impl<'s> Heard<'s> {
         Heard {
             announced: Announced::new(),
             numbers: HeardNumbers::new(alloc),
-            wait: Waiting::new(exchange.said.answers),
-            asked: Questions::behind(exchange.said.answers),
+            wait: Waiting::new(exchange.replies.answers),
+            asked: Questions::behind(exchange.replies.answers),
         }
     }
 
@@ -48,7 +48,7 @@ impl<'s> Heard<'s> {
         claims: &[Stretch],
     ) -> Result<(), Memory>
         requires { rising.AreRising claims.now }
-        ensures { OnOk result ((acts : List placed_spec.PlacedValue) → length acts + 1 < 2 ^ 64 → claimed.AreClaims exchange.now.said.answers.now claims.now → heard.IsHeard exchange.now acts self.old
+        ensures { OnOk result ((acts : List placed_spec.PlacedValue) → length acts + 1 < 2 ^ 64 → claimed.AreClaims exchange.now.replies.answers.now claims.now → heard.IsHeard exchange.now acts self.old
             → heard.IsHeard exchange.now (acts ++ placed_spec.placed_value placed.now ∷ []) self.new) }
     {
         self.announced.hear(placed, exchange.pair.writer);

@@ -21,7 +21,7 @@ pub(crate) struct Hearer<'s, 'a> {
     claims: Vec<Stretch>,
     pub(crate) heard: Heard<'s>,
     ghost is_rising: { rising.AreRising claims.items },
-    ghost is_claimed: { claimed.AreClaims brief.exchange.said.answers.now claims.items },
+    ghost is_claimed: { claimed.AreClaims brief.exchange.replies.answers.now claims.items },
 }
 
 impl<'s, 'a> Hearer<'s, 'a> {
@@ -35,7 +35,7 @@ impl<'s, 'a> Hearer<'s, 'a> {
         ensures verdict { IfOk result (λ hearer. hearer.brief.verdict ≡ verdict) }
         ensures heard { IfOk result (λ hearer. heard.IsHeard exchange.now [] hearer.heard) }
     {
-        let claims = claims_of(alloc, exchange.said.answers)?;
+        let claims = claims_of(alloc, exchange.replies.answers)?;
         Ok(Hearer {
             brief: Brief {
                 exchange: exchange.copied(),

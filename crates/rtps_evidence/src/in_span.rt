@@ -3,10 +3,10 @@ ghost use Rattle.rtps_ids.specs.declared.identity.Guid.{Guid as GuidValue};
 ghost use Rattle.rtps_receiver.specs.Values as values;
 ghost use Rattle.rtps_audit.specs.Delivery as delivery;
 ghost use Rattle.rtps_audit.specs.Placed as placed;
-ghost use Rattle.rtps_audit.specs.Said as said;
 ghost use Rattle.rtps_audit.specs.Speech as speech;
 ghost use Rattle.rtps_evidence.specs.Clean as clean_spec;
 ghost use Rattle.rtps_evidence.specs.Heard as heard;
+ghost use Rattle.rtps_evidence.specs.Replies as replies;
 ghost use Rattle.rtps_coverage.specs.Rising as rising;
 ghost use Rattle.rtps_evidence.specs.Spans as spans_spec;
 
@@ -116,11 +116,12 @@ impl InSpan {
     ) -> Result<InSpan, Memory>
         requires rising { rising.AreRising sets.now.unreceived.numbers.now }
         requires from { asked.now.from ≡ exchange.now.span.from }
-        ensures { (all recording : List (List values.ActValue)) (beside : other_side.Beside) → said.IsSaid exchange.now.pair recording exchange.now.said
+        ensures { (all recording : List (List values.ActValue)) (beside : other_side.Beside) → map placed.placed_value sets.now.unreceived.acts.now ≡ filter (placed.is_from exchange.now.pair.writer) (placed.placed_in recording)
+            → replies.AreReplies exchange.now.pair recording exchange.now.replies
             → other_side.AreThere all beside.other exchange.now.pair exchange.now.way exchange.now.is_held exchange.now.there.now → exchange.now.times.now.of_datagrams ≡ beside.times
             → asked.now.last ≡ delivery.last_announced_from asked.now.from (speech.speech_by exchange.now.pair.writer exchange.now.pair.reader recording)
             → kind_runs.AreSets asked.now.from asked.now.last exchange.now.times.now.of_datagrams (spans_spec.since_of exchange.now.span) exchange.now.pair (placed.placed_in recording) sets.now
-            → heard.IsHeard exchange.now (map placed.placed_value exchange.now.said.acts.now) sets.now.unreceived.heard.now
+            → heard.IsHeard exchange.now (map placed.placed_value sets.now.unreceived.acts.now) sets.now.unreceived.heard.now
             → IfOk result (evidence.IsInSpan exchange.now.span beside exchange.now.pair all recording) }
     {
         let heard = sets.unreceived.heard;
@@ -134,7 +135,7 @@ impl InSpan {
             wrote_before: wrote_before(&heard.announced, exchange.span.from),
             until: exchange.span.until,
             outcomes,
-            base: greatest_base(exchange.said.answers),
+            base: greatest_base(exchange.replies.answers),
             way: exchange.way,
             is_held: exchange.is_held,
             absent,
@@ -152,7 +153,7 @@ impl InSpan {
         sets: &OutcomeSets<'_, '_>,
         asked: &AskedNumbers,
     ) -> Result<LostNumbers, Memory>
-        ensures { (recording : List (List values.ActValue)) (there : ℕ → Bool) → said.IsSaid exchange.now.pair recording exchange.now.said
+        ensures { (recording : List (List values.ActValue)) (there : ℕ → Bool) → map placed.placed_value sets.now.unreceived.acts.now ≡ filter (placed.is_from exchange.now.pair.writer) (placed.placed_in recording)
             → ((n : ℕ) → stretches.stretches_have exchange.now.there.now n ≡ there n)
             → self.now.is_held ≡ exchange.now.is_held
             → outcomes_spec.AreOutcomes there asked.now.from asked.now.last exchange.now.times.now.of_datagrams (spans_spec.since_of exchange.now.span) exchange.now.pair (placed.placed_in recording) self.now.outcomes

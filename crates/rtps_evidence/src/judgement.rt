@@ -1,22 +1,22 @@
-ghost use Rattle.std.specs.Prelude.{ℕ, ◌≡◌, true, false, filter, All, IfOk, IfSome, List};
+ghost use Rattle.std.specs.Prelude.{ℕ, ◌≡◌, true, false, filter, map, All, IfOk, IfSome, List};
 ghost use Rattle.rtps_receiver.specs.Values as values;
 ghost use Rattle.rtps_audit.specs.Index as index_spec;
 ghost use Rattle.rtps_audit.specs.Intake as intake;
 ghost use Rattle.rtps_audit.specs.Placed as placed;
 ghost use Rattle.rtps_audit.specs.Report as report;
 ghost use Rattle.rtps_audit.specs.RunVerdict as run_verdict;
-ghost use Rattle.rtps_audit.specs.Said as said_spec;
 ghost use Rattle.rtps_audit.specs.Speech as speech;
 ghost use Rattle.rtps_fragments.specs.Hearing as hearing;
 ghost use Rattle.rtps_evidence.specs.Evidence as evidence;
 ghost use Rattle.rtps_evidence.specs.ReaderNotes as reader_notes;
+ghost use Rattle.rtps_evidence.specs.Replies as replies;
 ghost use Rattle.rtps_evidence.specs.Spans as spans;
 
 use crate::coming::Coming;
 use crate::exchange::{Exchange, Extent};
 use crate::reader_notes::ReaderNotes;
 use crate::span::Span;
-use rtps_audit::{FirstAsked, Index, Row, Verdict};
+use rtps_audit::{FirstAsked, Index, Placed, Row, Verdict};
 use rtps_discovery::Pair;
 use rtps_ids::{Memory, SeqNum};
 use std::alloc::Global;
@@ -116,16 +116,18 @@ impl Judgement {
 pub(crate) fn verdict_of(
     alloc: Global,
     exchange: &Exchange<'_, '_>,
+    acts: &[Placed<'_>],
     known: Option<Verdict>,
 ) -> Result<Verdict, Memory>
-    ensures { (recording : List (List values.ActValue)) → said_spec.IsSaid exchange.now.pair recording exchange.now.said
+    ensures { (recording : List (List values.ActValue)) → map placed.placed_value acts.now ≡ filter (placed.is_from exchange.now.pair.writer) (placed.placed_in recording)
+        → replies.AreReplies exchange.now.pair recording exchange.now.replies
         → IfSome known (run_verdict.IsVerdictFrom exchange.now.span.from (speech.speech_by exchange.now.pair.writer exchange.now.pair.reader recording))
         → IfOk result (run_verdict.IsVerdictFrom exchange.now.span.from (speech.speech_by exchange.now.pair.writer exchange.now.pair.reader recording)) }
 {
     match known {
         Some(verdict) => Ok(verdict),
         None => exchange
-            .said
+            .said(acts)
             .judge_from(alloc, exchange.pair, exchange.span.from),
     }
 }

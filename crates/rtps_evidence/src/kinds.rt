@@ -1,7 +1,6 @@
-ghost use Rattle.std.specs.Prelude.{ℕ, Bool, ◌≡◌, ◌≤◌, ◌+◌, ◌&&◌, not, take, IfOk, List};
+ghost use Rattle.std.specs.Prelude.{ℕ, Bool, ◌≡◌, ◌≤◌, ◌+◌, ◌&&◌, filter, map, not, take, IfOk, List};
 ghost use Rattle.rtps_receiver.specs.Values as values;
 ghost use Rattle.rtps_audit.specs.Placed as placed;
-ghost use Rattle.rtps_audit.specs.Said as said;
 ghost use Rattle.rtps_discovery.specs.declared.matching.Pair.{Pair as PairOf};
 ghost use Rattle.rtps_coverage.specs.Rising as rising_spec;
 ghost use Rattle.rtps_coverage.specs.Stretches as stretches;
@@ -18,8 +17,10 @@ use crate::missed::not_there;
 use crate::outcome_sets::OutcomeSets;
 use crate::runs::runs_of;
 use crate::sendings::{Sendings, SentSpan};
+use rtps_audit::Placed;
 use rtps_coverage::Stretch;
 use rtps_coverage::rising::rising;
+use rtps_discovery::Pair;
 use rtps_ids::Memory;
 use std::alloc::Global;
 
@@ -75,6 +76,9 @@ pub(crate) fn without(
     ensures { IfOk result (λ left. (n : ℕ) → asked.now.from ≤ n → n ≤ asked.now.last → stretches.stretches_have left.items n
         ≡ (stretches.stretches_have numbers.now n && not (stretches.stretches_have others.now n))) }
 {
+    if numbers.is_empty() {
+        return Ok(Vec::new(alloc));
+    }
     let mut copy = Vec::from_slice(alloc, numbers)?;
     let left = not_there(alloc, &mut copy, others, asked)?;
     Ok(left)
@@ -154,13 +158,13 @@ impl KindRuns {
         Ok(numbers)
     }
 
-    /// Where their numbers are sent first.
-    fn sendings(&self, alloc: Global, exchange: &Exchange<'_, '_>) -> Result<Sendings, Memory>
-        ensures { (recording : List (List values.ActValue)) → said.IsSaid exchange.now.pair recording exchange.now.said
-            → IfOk result (runs.AreSendings (kind_runs.is_in_runs self.now) (kinds.first_brought exchange.now.pair (placed.placed_in recording))) }
+    /// Where their numbers are sent first, by the acts of the writer.
+    fn sendings(&self, alloc: Global, acts: &[Placed<'_>], pair: Pair) -> Result<Sendings, Memory>
+        ensures { (recording : List (List values.ActValue)) → map placed.placed_value acts.now ≡ filter (placed.is_from pair.writer) (placed.placed_in recording)
+            → IfOk result (runs.AreSendings (kind_runs.is_in_runs self.now) (kinds.first_brought pair (placed.placed_in recording))) }
     {
         let numbers = self.numbers(alloc)?;
-        let sendings = Sendings::of(alloc, exchange.said.acts, exchange.pair, &numbers)?;
+        let sendings = Sendings::of(alloc, acts, pair, &numbers)?;
         Ok(sendings)
     }
 }
@@ -226,13 +230,13 @@ impl LostNumbers {
         sets: &OutcomeSets<'_, '_>,
         asked: &AskedNumbers,
     ) -> Result<LostNumbers, Memory>
-        ensures { (recording : List (List values.ActValue)) (there : ℕ → Bool) → said.IsSaid exchange.now.pair recording exchange.now.said
+        ensures { (recording : List (List values.ActValue)) (there : ℕ → Bool) → map placed.placed_value sets.now.unreceived.acts.now ≡ filter (placed.is_from exchange.now.pair.writer) (placed.placed_in recording)
             → ((n : ℕ) → stretches.stretches_have exchange.now.there.now n ≡ there n)
             → kind_runs.AreSets asked.now.from asked.now.last exchange.now.times.now.of_datagrams (spans.since_of exchange.now.span) exchange.now.pair (placed.placed_in recording) sets.now
             → IfOk result (λ lost. kinds.AreLost exchange.now.is_held there asked.now.from asked.now.last exchange.now.times.now.of_datagrams (spans.since_of exchange.now.span) exchange.now.pair (placed.placed_in recording) (kinds.lost_value lost)) }
     {
         let runs = KindRuns::of(alloc, exchange, sets, asked)?;
-        let sendings = runs.sendings(alloc, exchange)?;
+        let sendings = runs.sendings(alloc, sets.unreceived.acts, exchange.pair)?;
         let missed = KindNumbers::of(alloc, &runs.missed, &sendings)?;
         let unsent = KindNumbers::of(alloc, &runs.unsent, &sendings)?;
         let unanswered = KindNumbers::of(alloc, &runs.unanswered, &sendings)?;

@@ -1,12 +1,12 @@
-ghost use Rattle.std.specs.Prelude.{ℕ, Bool, ◌≡◌, ◌<◌, ◌^◌, ◌++◌, ◌∷◌, [], map, not, IfOk, OnOk, List};
+ghost use Rattle.std.specs.Prelude.{ℕ, Bool, ◌≡◌, ◌<◌, ◌^◌, ◌++◌, ◌∷◌, [], filter, not, IfOk, OnOk, List};
 ghost use Rattle.rtps_receiver.specs.Values as values;
 ghost use Rattle.rtps_audit.specs.Placed as placed_spec;
-ghost use Rattle.rtps_audit.specs.Said as said;
 ghost use Rattle.rtps_coverage.specs.Rising as rising;
 ghost use Rattle.rtps_coverage.specs.Stretches as stretches;
 ghost use Rattle.rtps_evidence.specs.Ledger as ledger;
 ghost use Rattle.rtps_evidence.specs.Missed as missed;
 ghost use Rattle.rtps_evidence.specs.Received as received;
+ghost use Rattle.rtps_evidence.specs.Replies as replies;
 ghost use Rattle.rtps_evidence.specs.Spans as spans;
 ghost use Rattle.rtps_evidence.specs.declared.exchange.Exchange.{Exchange as ExchangeValue};
 
@@ -73,8 +73,9 @@ impl Ledger {
 
     /// The numbers that the reader asks for in vain, of those that it lacks.
     pub(crate) fn unmet(&self, alloc: Global) -> Result<Vec<Stretch>, Memory>
-        ensures { (exchange : ExchangeValue) (lacks : ℕ → Bool) (recording : List (List values.ActValue)) → said.IsSaid exchange.pair recording exchange.said
-            → ledger.Stands exchange lacks (map placed_spec.placed_value exchange.said.acts.now) self.now → (n : ℕ) → n < 2 ^ 63
+        ensures { (exchange : ExchangeValue) (lacks : ℕ → Bool) (acts : List placed_spec.PlacedValue) (recording : List (List values.ActValue))
+            → acts ≡ filter (placed_spec.is_from exchange.pair.writer) (placed_spec.placed_in recording) → replies.AreReplies exchange.pair recording exchange.replies
+            → ledger.Stands exchange lacks acts self.now → (n : ℕ) → n < 2 ^ 63
             → lacks n ≡ not (received.is_received exchange.pair.writer exchange.pair.reader (placed_spec.placed_in recording) n)
             → IfOk result (λ unmet. stretches.stretches_have unmet.items n
             ≡ missed.is_unmet (spans.since_of exchange.span) exchange.pair.writer exchange.pair.reader (placed_spec.placed_in recording) n) }

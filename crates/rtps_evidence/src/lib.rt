@@ -51,6 +51,7 @@ mod questions;
 mod reader_notes;
 mod received;
 mod recorded;
+mod replies;
 mod runs;
 mod said_to;
 mod same_act;

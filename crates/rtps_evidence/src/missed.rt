@@ -1,16 +1,17 @@
-ghost use Rattle.std.specs.Prelude.{ℕ, Bool, ◌≡◌, ◌≤◌, ◌+◌, ◌&&◌, not, IfOk, List};
+ghost use Rattle.std.specs.Prelude.{ℕ, Bool, ◌≡◌, ◌≤◌, ◌+◌, ◌&&◌, filter, map, not, IfOk, List};
 ghost use Rattle.rtps_receiver.specs.Values as values;
 ghost use Rattle.rtps_audit.specs.Placed as placed;
-ghost use Rattle.rtps_audit.specs.Said as said;
 ghost use Rattle.rtps_coverage.specs.Stretches as stretches;
 ghost use Rattle.rtps_evidence.specs.Missed as missed_spec;
 ghost use Rattle.rtps_evidence.specs.Received as received;
+ghost use Rattle.rtps_evidence.specs.Replies as replies;
 ghost use Rattle.rtps_evidence.specs.Spans as spans;
 
 use crate::amount::AskedNumbers;
 use crate::exchange::Exchange;
 use crate::first_missed::{FirstMissed, first_missed_at};
 use crate::lacking::others_of;
+use rtps_audit::Placed;
 use rtps_coverage::Stretch;
 use rtps_coverage::stretches::{count_of, least_inside};
 use rtps_ids::Memory;
@@ -44,37 +45,38 @@ pub(crate) fn not_there(
 fn first_among(
     numbers: &[Stretch],
     exchange: &Exchange<'_, '_>,
+    acts: &[Placed<'_>],
     asked: &AskedNumbers,
 ) -> Option<FirstMissed>
-    ensures { (recording : List (List values.ActValue)) → said.IsSaid exchange.now.pair recording exchange.now.said
+    ensures { (recording : List (List values.ActValue)) → map placed.placed_value acts.now ≡ filter (placed.is_from exchange.now.pair.writer) (placed.placed_in recording)
+        → replies.AreReplies exchange.now.pair recording exchange.now.replies
         → result ≡ missed_spec.missed_by exchange.now.pair.writer exchange.now.pair.reader (placed.placed_in recording) (received.least_in (stretches.stretches_have numbers.now) asked.now.from (asked.now.last + 1)) }
 {
     let from = asked.from.get();
     let end = asked.last + 1;
     let least = least_inside(numbers, from, end);
     if least < end {
-        return first_missed_at(exchange, least);
+        return first_missed_at(exchange, acts, least);
     }
     None
 }
 
-/// Of the numbers that are asked for: how many are missed and not there, and the least of them, where these are missed. It puts them
-/// in another order.
+/// Of the numbers that are asked for: how many are missed and not there, and the least of them, by the acts of the writer, where these are
+/// so. It puts them in another order.
 pub(crate) fn count_missed(
-    alloc: Global,
-    missed: &mut Vec<Stretch>,
+    left: &mut Vec<Stretch>,
     exchange: &Exchange<'_, '_>,
+    acts: &[Placed<'_>],
     asked: &AskedNumbers,
 ) -> Result<Missed, Memory>
-    ensures { (recording : List (List values.ActValue)) (there : ℕ → Bool) → said.IsSaid exchange.now.pair recording exchange.now.said
-        → ((n : ℕ) → stretches.stretches_have exchange.now.there.now n ≡ there n)
-        → ((n : ℕ) → asked.now.from ≤ n → n ≤ asked.now.last → stretches.stretches_have missed.old.items n
-        ≡ missed_spec.is_missed (spans.since_of exchange.now.span) exchange.now.pair.writer exchange.now.pair.reader (placed.placed_in recording) n)
+    ensures { (recording : List (List values.ActValue)) (there : ℕ → Bool) → map placed.placed_value acts.now ≡ filter (placed.is_from exchange.now.pair.writer) (placed.placed_in recording)
+        → replies.AreReplies exchange.now.pair recording exchange.now.replies
+        → ((n : ℕ) → asked.now.from ≤ n → n ≤ asked.now.last → stretches.stretches_have left.old.items n
+        ≡ missed_spec.is_missed_for_good there (spans.since_of exchange.now.span) exchange.now.pair.writer exchange.now.pair.reader (placed.placed_in recording) n)
         → IfOk result (missed_spec.AreMissed there asked.now.from asked.now.last (spans.since_of exchange.now.span) exchange.now.pair.writer exchange.now.pair.reader (placed.placed_in recording)) }
 {
-    let mut left = not_there(alloc, missed, exchange.there, asked)?;
-    let first = first_among(&left, exchange, asked);
+    let first = first_among(left, exchange, acts, asked);
     let from = asked.from.get();
-    let count = count_of(&mut left, from, asked.last + 1)?;
+    let count = count_of(left, from, asked.last + 1)?;
     Ok(Missed { count, first })
 }

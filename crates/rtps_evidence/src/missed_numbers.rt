@@ -129,13 +129,13 @@ pub(crate) fn requests_of(
 ) -> Result<BTreeMap<u64, Request>, Memory>
     requires { rising.AreRising lacking.now }
     ensures { IfOk result (λ requests. (n : ℕ) → get nat_cmp requests n
-        ≡ requests_spec.requested exchange.now.pair (map placed_spec.placed_value exchange.now.said.asks.now) (stretches.stretches_have lacking.now) n) }
+        ≡ requests_spec.requested exchange.now.pair (map placed_spec.placed_value exchange.now.replies.asks.now) (stretches.stretches_have lacking.now) n) }
 {
     let mut requests = BTreeMap::new(alloc);
     if lacking.is_empty() {
         return Ok(requests);
     }
-    for placed in exchange.said.asks {
+    for placed in exchange.replies.asks {
         note_asking(&mut requests, placed, exchange, lacking)?;
     }
     Ok(requests)

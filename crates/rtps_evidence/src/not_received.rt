@@ -1,11 +1,11 @@
-ghost use Rattle.std.specs.Prelude.{◌≡◌, ◌<◌, ◌^◌, ◌++◌, ◌∷◌, [], map, nat_lt, List};
+ghost use Rattle.std.specs.Prelude.{◌≡◌, ◌<◌, ◌^◌, ◌++◌, ◌∷◌, [], filter, map, nat_lt, List};
 ghost use Rattle.std.specs.List.{find};
 ghost use Rattle.rtps_receiver.specs.Values as values;
 ghost use Rattle.rtps_audit.specs.Placed as placed_spec;
-ghost use Rattle.rtps_audit.specs.Said as audit_said;
 ghost use Rattle.rtps_receiver.specs.Said as receiver_said;
 ghost use Rattle.rtps_evidence.specs.Locations as locations;
 ghost use Rattle.rtps_evidence.specs.Received as received_spec;
+ghost use Rattle.rtps_evidence.specs.Replies as replies;
 
 use crate::acknowledgement::{Claim, claim_in};
 use crate::exchange::Exchange;
@@ -97,14 +97,19 @@ fn first_gone(acts: &[Placed<'_>], pair: Pair, claimed: ClaimedNumber) -> Option
     found
 }
 
-/// The number as one that is not received, and what keeps it from being so.
-pub(crate) fn not_received_at(exchange: &Exchange<'_, '_>, number: u64) -> NotReceived
+/// The number as one that is not received, by the acts of the writer, and what keeps it from being so.
+pub(crate) fn not_received_at(
+    exchange: &Exchange<'_, '_>,
+    acts: &[Placed<'_>],
+    number: u64,
+) -> NotReceived
     requires { number < 2 ^ 63 }
-    ensures { (recording : List (List values.ActValue)) → audit_said.IsSaid exchange.now.pair recording exchange.now.said
+    ensures { (recording : List (List values.ActValue)) → map placed_spec.placed_value acts.now ≡ filter (placed_spec.is_from exchange.now.pair.writer) (placed_spec.placed_in recording)
+        → replies.AreReplies exchange.now.pair recording exchange.now.replies
         → result ≡ received_spec.kept_by exchange.now.pair.writer exchange.now.pair.reader number (placed_spec.placed_in recording)
         (received_spec.first_claiming exchange.now.pair.writer exchange.now.pair.reader number (placed_spec.placed_in recording)) }
 {
-    let Some(claim) = first_claim(exchange.said.answers, number) else {
+    let Some(claim) = first_claim(exchange.replies.answers, number) else {
         return NotReceived {
             number,
             gone: None,
@@ -117,7 +122,7 @@ pub(crate) fn not_received_at(exchange: &Exchange<'_, '_>, number: u64) -> NotRe
     };
     NotReceived {
         number,
-        gone: first_gone(exchange.said.acts, exchange.pair, claimed),
+        gone: first_gone(acts, exchange.pair, claimed),
         acknowledged: Some(claim.place),
     }
 }

@@ -1,10 +1,10 @@
 ghost use Rattle.std.specs.Prelude.{ℕ, Bool, ◌≡◌, IfOk, List};
 ghost use Rattle.rtps_receiver.specs.Values as values;
 ghost use Rattle.rtps_audit.specs.Placed as placed;
-ghost use Rattle.rtps_audit.specs.Said as said;
 ghost use Rattle.rtps_coverage.specs.Stretches as stretches;
 ghost use Rattle.rtps_evidence.specs.Claimed as claimed;
 ghost use Rattle.rtps_evidence.specs.KindRuns as kind_runs;
+ghost use Rattle.rtps_evidence.specs.Replies as replies;
 ghost use Rattle.rtps_coverage.specs.Rising as rising;
 ghost use Rattle.rtps_evidence.specs.Spans as spans;
 
@@ -15,6 +15,7 @@ use crate::first_numbers::FirstNumbers;
 use crate::heard::Heard;
 use crate::ledger::Ledger;
 use crate::outcome_sets::OutcomeSets;
+use rtps_audit::Placed;
 use rtps_coverage::Stretch;
 use rtps_coverage::stretches::outside;
 use rtps_ids::Memory;
@@ -60,7 +61,9 @@ pub(crate) struct Unreceived<'n, 's> {
     pub(crate) numbers: &'n [Stretch],
     pub(crate) unmet: &'n [Stretch],
     pub(crate) missed: &'n [Stretch],
-    /// What became of them.
+    /// The acts of the writer.
+    pub(crate) acts: &'n [Placed<'n>],
+    /// What became of the numbers by these.
     pub(crate) ledger: &'n Ledger,
     /// What the reader heard.
     pub(crate) heard: &'n Heard<'s>,
@@ -107,14 +110,14 @@ impl Outcomes {
         asked: &AskedNumbers,
     ) -> Result<Outcomes, Memory>
         requires { rising.AreRising sets.now.unreceived.numbers.now }
-        ensures { (recording : List (List values.ActValue)) (there : ℕ → Bool) → said.IsSaid exchange.now.pair recording exchange.now.said
+        ensures { (recording : List (List values.ActValue)) (there : ℕ → Bool) → replies.AreReplies exchange.now.pair recording exchange.now.replies
             → ((n : ℕ) → stretches.stretches_have exchange.now.there.now n ≡ there n)
             → kind_runs.AreSets asked.now.from asked.now.last exchange.now.times.now.of_datagrams (spans.since_of exchange.now.span) exchange.now.pair (placed.placed_in recording) sets.now
             → IfOk result (outcomes.AreOutcomes there asked.now.from asked.now.last exchange.now.times.now.of_datagrams (spans.since_of exchange.now.span) exchange.now.pair (placed.placed_in recording)) }
     {
         let claimed = [Stretch {
             lo: 0,
-            hi: greatest_base(exchange.said.answers),
+            hi: greatest_base(exchange.replies.answers),
         }];
         let from = asked.from.get();
         let end = asked.last + 1;

@@ -1,12 +1,12 @@
-ghost use Rattle.std.specs.Prelude.{ℕ, ◌≡◌, ◌≤◌, map, IfOk, List};
+ghost use Rattle.std.specs.Prelude.{ℕ, ◌≡◌, ◌≤◌, filter, IfOk, List};
 ghost use Rattle.rtps_receiver.specs.Values as values;
 ghost use Rattle.rtps_audit.specs.Placed as placed;
-ghost use Rattle.rtps_audit.specs.Said as said;
 ghost use Rattle.rtps_coverage.specs.Stretches as stretches;
 ghost use Rattle.rtps_evidence.specs.Claimed as claimed;
 ghost use Rattle.rtps_evidence.specs.KindRuns as kind_runs;
 ghost use Rattle.rtps_evidence.specs.Ledger as ledger;
 ghost use Rattle.rtps_evidence.specs.Missed as missed;
+ghost use Rattle.rtps_evidence.specs.Replies as replies;
 ghost use Rattle.rtps_evidence.specs.Spans as spans;
 ghost use Rattle.rtps_evidence.specs.declared.exchange.Exchange.{Exchange as ExchangeValue};
 
@@ -35,13 +35,14 @@ impl<'n, 's> OutcomeSets<'n, 's> {
         asked: &AskedNumbers,
     ) -> Result<OutcomeSets<'n, 's>, Memory>
         ensures same { IfOk result (λ sets. sets.unreceived ≡ unreceived.entry) }
-        ensures sets { (exchange : ExchangeValue) (recording : List (List values.ActValue)) → said.IsSaid exchange.pair recording exchange.said
+        ensures sets { (exchange : ExchangeValue) (acts : List placed.PlacedValue) (recording : List (List values.ActValue))
+            → acts ≡ filter (placed.is_from exchange.pair.writer) (placed.placed_in recording) → replies.AreReplies exchange.pair recording exchange.replies
             → claimed.AreLacking asked.now.from asked.now.last exchange.pair (placed.placed_in recording) unreceived.entry.numbers.now
             → ((n : ℕ) → asked.now.from ≤ n → n ≤ asked.now.last → stretches.stretches_have unreceived.entry.unmet.now n
             ≡ missed.is_unmet (spans.since_of exchange.span) exchange.pair.writer exchange.pair.reader (placed.placed_in recording) n)
             → ((n : ℕ) → asked.now.from ≤ n → n ≤ asked.now.last → stretches.stretches_have unreceived.entry.missed.now n
             ≡ missed.is_missed (spans.since_of exchange.span) exchange.pair.writer exchange.pair.reader (placed.placed_in recording) n)
-            → ledger.Stands exchange (stretches.stretches_have unreceived.entry.numbers.now) (map placed.placed_value exchange.said.acts.now) unreceived.entry.ledger.now
+            → ledger.Stands exchange (stretches.stretches_have unreceived.entry.numbers.now) acts unreceived.entry.ledger.now
             → IfOk result (kind_runs.AreSets asked.now.from asked.now.last exchange.times.now.of_datagrams (spans.since_of exchange.span) exchange.pair (placed.placed_in recording)) }
     {
         let mut brought = Vec::from_slice(alloc, &unreceived.ledger.brought)?;

@@ -121,7 +121,7 @@ impl SilentNumbers {
     ) -> Result<(), Memory>
         ensures { OnOk result ((acts : List placed_spec.PlacedValue) → silent_numbers.AreSilent exchange.now acts self.old → silent_numbers.AreSilent exchange.now (acts ++ placed_spec.placed_value placed.now ∷ []) self.new) }
     {
-        self.pass(exchange.said.answers, location_of(placed));
+        self.pass(exchange.replies.answers, location_of(placed));
         self.hear(placed, &exchange.listener(), exchange.times)
     }
 }

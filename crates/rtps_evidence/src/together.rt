@@ -11,6 +11,7 @@ use crate::hearer::Hearer;
 use crate::judgement::verdict_of;
 use crate::leaving_ear::LeavingEar;
 use crate::other_side::Sides;
+use crate::replies::Replies;
 use rtps_audit::{Index, Placed};
 use rtps_fragments::have_fragments;
 use rtps_fragments::laws::{pairs_are_heard_without_fragments, verdicts_stay_without_fragments};
@@ -57,8 +58,9 @@ fn reader_of<'s, 'a>(
     // What is sent without fragments is heard as it is, and judged alike.
     pairs_are_heard_without_fragments();
     verdicts_stay_without_fragments();
-    let exchange = docket.exchange(sides);
-    let verdict = verdict_of(alloc, &exchange, docket.judgement.known)?;
+    let said = docket.said(sides);
+    let exchange = docket.exchange(sides, Replies::of(&said));
+    let verdict = verdict_of(alloc, &exchange, said.acts, docket.judgement.known)?;
     let ear = Hearer::new(alloc, &exchange, verdict)?;
     Ok(LeavingEar {
         until: docket.judgement.span.until,

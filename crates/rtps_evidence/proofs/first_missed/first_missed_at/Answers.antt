@@ -11,7 +11,7 @@ use Rattle.rtps_evidence.proofs.RequestLemmas.{taken_more}
 use Rattle.rtps_evidence.proofs.first_missed.first_missed_at.Goals as goal
 
 pub returns-in_default : goal.returns-in_default
-returns-in_default c = λ recording is.
+returns-in_default c = λ recording sent is.
     let pair = c.args.exchange.now.pair in
     let all = placed.placed_in recording in
     never_asked pair.writer pair.reader c.args.number all (locations.find_last (missed.asks_for pair.writer pair.reader c.args.number) all)
@@ -25,7 +25,7 @@ hear-requires c = let same = c.loop-placed.invariant.number in let low = c.requi
 pub loop-placed-preserved : goal.loop-placed-preserved
 loop-placed-preserved c =
     let pair = c.args.exchange.now.pair in
-    let acts = c.args.exchange.now.said.acts.now in
+    let acts = c.args.acts.now in
     let i = c.loop-placed.placed-index in
     record {
       number = c.hear.ensures.number ∙ c.loop-placed.invariant.number;
@@ -34,11 +34,11 @@ loop-placed-preserved c =
     }
 
 pub returns : goal.returns
-returns c = λ recording is.
+returns c = λ recording sent is.
     let pair = c.args.exchange.now.pair in
     let n = c.args.number in
     let asked = c.in-Some.asked in
-    let acts = c.args.exchange.now.said.acts.now in
+    let acts = c.args.acts.now in
     let own = map placed.placed_value acts in
     let all = placed.placed_in recording in
     let are = subst (λ (l : List Placed). missed.IsMissedBy pair.writer pair.reader asked (map placed.placed_value l) c.loop-placed.missed) (take_all c.loop-placed.placed-index acts c.loop-placed-test.false) c.loop-placed.invariant.missed in
@@ -47,6 +47,6 @@ returns c = λ recording is.
     ∙ c.last_asking.ensures
     ∙ ap (λ (l : List placed.PlacedValue). option_map locations.location_of (locations.find_last (missed.asks_for pair.writer pair.reader n) l)) is.asks
     ∙ ap (option_map locations.location_of) (last_asking_same pair.writer pair.reader n all))
-    (ap (missed.again_behind asked pair.writer pair.reader n) is.acts ∙ again_same asked pair.writer pair.reader n all)
-    (ap (missed.gone_behind asked pair.writer pair.reader n) is.acts ∙ gone_same_behind asked pair.writer pair.reader n all)
-    (ap (list_any (missed.brings pair.writer pair.reader n)) is.acts ∙ sent_same pair.writer pair.reader n all)
+    (ap (missed.again_behind asked pair.writer pair.reader n) sent ∙ again_same asked pair.writer pair.reader n all)
+    (ap (missed.gone_behind asked pair.writer pair.reader n) sent ∙ gone_same_behind asked pair.writer pair.reader n all)
+    (ap (list_any (missed.brings pair.writer pair.reader n)) sent ∙ sent_same pair.writer pair.reader n all)

@@ -7,5 +7,5 @@ use Rattle.rtps_evidence.proofs.first_missed.first_missed_at.Given as goal
 abbrev pub invariant-loop-placed : goal.invariant-loop-placed
 invariant-loop-placed l = record {
   number : l.missed.number ≡ l.fn.number;
-  missed : missed.IsMissedBy l.pair.writer l.pair.reader l.initial.missed.asked (map placed.placed_value (take l.placed-index l.placed-items)) l.missed;
+  missed : missed.IsMissedBy l.pair.writer l.pair.reader l.initial.missed.asked (map placed.placed_value (take l.placed-index l.acts)) l.missed;
 }

@@ -10,7 +10,7 @@ use Rattle.rtps_evidence.proofs.missed_numbers.requests_of.Goals as goal
 pub loop-placed-preserved : goal.loop-placed-preserved
 loop-placed-preserved c = λ n.
     let pair = c.args.exchange.now.pair in
-    let acts = c.args.exchange.now.said.asks.now in
+    let acts = c.args.exchange.now.replies.asks.now in
     let lacks = stretches.stretches_have c.args.lacking.now in
     let i = c.loop-placed.placed-index in
     let x = placed.placed_value c.placed-item.result in

@@ -12,18 +12,18 @@ use Rattle.rtps_evidence.proofs.NotReceivedLemmas.{kept_claimed, kept_unclaimed}
 use Rattle.rtps_evidence.proofs.not_received.not_received_at.Goals as goal
 
 pub returns-in_default : goal.returns-in_default
-returns-in_default c = λ recording is.
+returns-in_default c = λ recording sent is.
     kept_unclaimed c.args.exchange.now.pair.writer c.args.exchange.now.pair.reader c.args.number (placed.placed_in recording) (received.first_claiming c.args.exchange.now.pair.writer c.args.exchange.now.pair.reader c.args.number (placed.placed_in recording))
     (c.in_default.ensures
     ∙ ap (λ (all : List Answer). find (λ (claim : Claim). nat_lt c.args.number (said.natural claim.below)) (map locations.claim_in all)) (is.answers)
     ∙ claimed_first c.args.number c.args.exchange.now.pair (placed.placed_in recording))
 
 pub returns : goal.returns
-returns c = λ recording is.
+returns c = λ recording sent is.
     kept_claimed c.args.exchange.now.pair.writer c.args.exchange.now.pair.reader c.args.number (placed.placed_in recording) (received.first_claiming c.args.exchange.now.pair.writer c.args.exchange.now.pair.reader c.args.number (placed.placed_in recording)) c.in-Some.claim c.first_gone.result
     (c.in-Some.ensures
     ∙ ap (λ (all : List Answer). find (λ (claim : Claim). nat_lt c.args.number (said.natural claim.below)) (map locations.claim_in all)) (is.answers)
     ∙ claimed_first c.args.number c.args.exchange.now.pair (placed.placed_in recording))
     (c.first_gone.ensures
-    ∙ ap (received.gone_before c.args.exchange.now.pair.writer c.args.exchange.now.pair.reader c.args.number c.in-Some.claim.place.datagram) (is.acts)
+    ∙ ap (received.gone_before c.args.exchange.now.pair.writer c.args.exchange.now.pair.reader c.args.number c.in-Some.claim.place.datagram) sent
     ∙ gone_same_before c.args.exchange.now.pair.writer c.args.exchange.now.pair.reader c.args.number c.in-Some.claim.place.datagram (placed.placed_in recording))

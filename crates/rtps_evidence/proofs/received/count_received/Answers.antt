@@ -12,7 +12,7 @@ pub overflow_sub-count-2 : goal.overflow_sub-count-2
 overflow_sub-count-2 c = grind (arith, nat_tests, common_steps, count_others)
 
 pub returns-then-least-end : goal.returns-then-least-end
-returns-then-least-end c = λ recording is are.
+returns-then-least-end c = λ recording sent is are.
     let pair = c.args.exchange.now.pair in
     let from : c.get-from.result ≡ c.args.asked.now.from = c.get-from.ensures.value in
     let found = c.least_inside-least.ensures in
@@ -20,10 +20,10 @@ returns-then-least-end c = λ recording is are.
     let high : c.least_inside-least.result < c.args.asked.now.last + 1 = (let lt = c.if-least-end.true in omega (arith, lt)) in
     subst (λ n. received.AreReceived n c.args.asked.now.last pair.writer pair.reader (placed.placed_in recording) given) from
     (some_not_received c.get-from.result c.args.asked.now.last c.least_inside-least.result given.count c.in_ok-others.others pair (placed.placed_in recording) c.args.lacking.now.items c.deref.result.now c.not_received_at.result
-    c.deref.ensures.value (λ n low up. are n (omega arith) up) found.onward (found.inside high) found.below c.in_ok-others.ensures.count refl high (c.not_received_at.ensures recording is))
+    c.deref.ensures.value (λ n low up. are n (omega arith) up) found.onward (found.inside high) found.below c.in_ok-others.ensures.count refl high (c.not_received_at.ensures recording sent is))
 
 pub returns-else-least-end : goal.returns-else-least-end
-returns-else-least-end c = λ recording is are.
+returns-else-least-end c = λ recording sent is are.
     let pair = c.args.exchange.now.pair in
     let from : c.get-from.result ≡ c.args.asked.now.from = c.get-from.ensures.value in
     let found = c.least_inside-least.ensures in

@@ -9,6 +9,7 @@ use Rattle.rtps_evidence.specs.Ears as ears
 use Rattle.rtps_evidence.specs.Evidence as evidence
 use Rattle.rtps_evidence.specs.Heard as heard
 use Rattle.rtps_evidence.specs.OtherSide as other_side
+use Rattle.rtps_evidence.specs.Replies as replies
 use Rattle.rtps_evidence.specs.Spans as spans
 use Rattle.rtps_evidence.specs.Together as together
 use Rattle.rtps_evidence.specs.declared.brief.Brief.{Brief}
@@ -33,8 +34,11 @@ returns-clause-ready c = λ setting sides docket plain_writer plain_reader.
     let to_span : kept.judgement.span ≡ exchange.span = sym is.span in
     let until = exchange.span.until in
     let recording = said.datagrams_until until acts in
-    let sent = subst (λ (p : Pair). said.IsSaid p recording exchange.said) to_pair
-    (subst (λ (s : Span). said.IsSaid pair (said.datagrams_until s.until acts) exchange.said) to_span (is.said setting.intake sides.index)) in
+    let whole = c.said-said.result in
+    let sent = subst (λ (p : Pair). said.IsSaid p recording whole) to_pair
+    (subst (λ (s : Span). said.IsSaid pair (said.datagrams_until s.until acts) whole) to_span (c.said-said.ensures setting.intake sides.index)) in
+    let own : filter (placed.is_from exchange.pair.writer) (placed.placed_in recording) ≡ filter (ears.is_until until) (filter (placed.is_from pair.writer) (placed.placed_in acts)) =
+    until_kept until (placed.is_from exchange.pair.writer) acts ∙ ap (λ (p : Pair). filter (ears.is_until until) (filter (placed.is_from p.writer) (placed.placed_in acts))) is.pair in
     let known = subst (λ (p : Pair). IfSome kept.judgement.known (evidence.IsVerdictIn exchange.span p acts)) to_pair
     (subst (λ (s : Span). IfSome kept.judgement.known (evidence.IsVerdictIn s pair acts)) to_span docket.known) in
     let writer = subst (λ (p : Pair). together.is_plain setting p.writer) to_pair plain_writer in
@@ -44,6 +48,9 @@ returns-clause-ready c = λ setting sides docket plain_writer plain_reader.
     ap hearing.have_fragments (until_kept until (placed.is_from exchange.pair.writer) acts) ∙ none_of_some fragments (ears.is_until until) (filter (placed.is_from exchange.pair.writer) (placed.placed_in acts)) writer in
     let no_reader : hearing.have_fragments (filter (placed.is_from exchange.pair.reader) (placed.placed_in recording)) ≡ false =
     ap hearing.have_fragments (until_kept until (placed.is_from exchange.pair.reader) acts) ∙ none_of_some fragments (ears.is_until until) (filter (placed.is_from exchange.pair.reader) (placed.placed_in acts)) reader in
+    let hears = c.pairs_are_heard_without_fragments.ensures exchange.pair recording whole sent (ap hearing.have_fragments sent.acts ∙ no_writer) (ap hearing.have_fragments sent.asks ∙ no_reader) in
+    let heard_there = hearing.heard_by exchange.pair.reader recording in
+    let answered = subst (replies.AreReplies exchange.pair recording) (sym is.replies) (c.of.ensures exchange.pair recording sent) in
     let here : Brief = record { exchange = exchange; verdict = verdict } in
     let brief : ear.brief ≡ here = same_brief ear.brief here c.in_ok-ear.ensures.exchange c.in_ok-ear.ensures.verdict in
     record {
@@ -53,10 +60,9 @@ returns-clause-ready c = λ setting sides docket plain_writer plain_reader.
         in_spans = is.in_spans ∙ docket.in_spans;
         extent = subst (λ (p : Pair). spans.IsExtent setting.spans setting.from p setting.intake exchange.span) to_pair
             (subst (spans.IsExtent setting.spans setting.from pair setting.intake) to_span docket.extent);
-        sent = sent.acts ∙ until_kept until (placed.is_from exchange.pair.writer) acts
-            ∙ ap (λ (p : Pair). filter (ears.is_until until) (filter (placed.is_from p.writer) (placed.placed_in acts))) is.pair;
-        said = c.pairs_are_heard_without_fragments.ensures exchange.pair recording exchange.said sent (ap hearing.have_fragments sent.acts ∙ no_writer) (ap hearing.have_fragments sent.asks ∙ no_reader);
-        judged = (c.verdicts_stay_without_fragments.ensures exchange.span.from exchange.pair.writer exchange.pair.reader recording verdict no_writer).1 (c.in_ok-verdict.ensures recording sent known);
+        heard = sym (sent.acts ∙ own) ∙ hears.acts;
+        replies = subst (replies.AreReplies exchange.pair heard_there) (sym is.replies) (c.of.ensures exchange.pair heard_there hears);
+        judged = (c.verdicts_stay_without_fragments.ensures exchange.span.from exchange.pair.writer exchange.pair.reader recording verdict no_writer).1 (c.in_ok-verdict.ensures recording sent.acts answered known);
         there = subst (λ (p : Pair). other_side.AreThere acts setting.beside.other p exchange.way exchange.is_held exchange.there.now) to_pair
             (subst (λ w. other_side.AreThere acts setting.beside.other pair w exchange.is_held exchange.there.now) (sym is.way)
             (subst (λ h. other_side.AreThere acts setting.beside.other pair kept.arrivals.way h exchange.there.now) (sym is.held)

@@ -1,9 +1,8 @@
-use Rattle.std.proofs.Common.{◌≡◌, ◌∙◌, ◌≤◌, ◌&&◌, ◌-◌, ℕ, List, map, max, not, ap, arith, subst, sym}
+use Rattle.std.proofs.Common.{◌≡◌, ◌∙◌, ◌≤◌, ◌&&◌, ◌-◌, ℕ, Bool, List, ap, arith, false, filter, map, max, not, refl, subst, sym, true}
 use Rattle.rtps_receiver.specs.Values as values
 use Rattle.rtps_audit.specs.Delivery as delivery
 use Rattle.rtps_audit.specs.Placed as placed
 use Rattle.rtps_audit.specs.RunVerdict as run_verdict
-use Rattle.rtps_audit.specs.Said as said
 use Rattle.rtps_audit.specs.Speech as speech
 use Rattle.rtps_coverage.specs.Stretches as stretches
 use Rattle.rtps_evidence.specs.Amount as amount
@@ -20,20 +19,21 @@ use Rattle.rtps_evidence.proofs.OriginLemmas.{amounts_same, announcement_same, l
 use Rattle.rtps_evidence.proofs.QuestionLemmas.{questions_of_pair}
 use Rattle.rtps_evidence.proofs.case.Case.found.Goals as goal
 
--- the acts of its writer are heard again
-abbrev IsFull : Case → Type 0
-IsFull case = cases.IsCase (map placed.placed_value case.brief.exchange.said.acts.now) case
+-- what is not among these and excused is not excused, of these
+without_both : (b e : Bool) → (b && not (b && e)) ≡ (b && not e)
+without_both true e = refl
+without_both false e = refl
 
 -- where the reader asks up to
-last_of : (case : Case) (recording : List (List values.ActValue)) → IsFull case → said.IsSaid case.brief.exchange.pair recording case.brief.exchange.said
+last_of : (case : Case) (acts : List placed.PlacedValue) (recording : List (List values.ActValue)) → cases.IsCase acts acts case → acts ≡ filter (placed.is_from case.brief.exchange.pair.writer) (placed.placed_in recording)
     → case.asked.last ≡ delivery.last_announced_from case.asked.from (speech.speech_by case.brief.exchange.pair.writer case.brief.exchange.pair.reader recording)
-last_of case recording full is =
+last_of case acts recording full sent =
     let pair = case.brief.exchange.pair in
     last_same case.asked.from pair.writer pair.reader recording case.heard.announced.last case.asked.last
-    (full.heard.announced.last ∙ ap (λ l. delivery.greatest (map (locations.number_said pair.writer) l)) is.acts) full.last
+    (full.heard.announced.last ∙ ap (λ l. delivery.greatest (map (locations.number_said pair.writer) l)) sent) full.last
 
 pub returns-clause-shown : goal.returns-clause-shown
-returns-clause-shown c = λ recording there is judged has full.
+returns-clause-shown c = λ recording there sent is judged has full.
     let case = c.args.self in
     let exchange = case.brief.exchange in
     let pair = exchange.pair in
@@ -41,19 +41,29 @@ returns-clause-shown c = λ recording there is judged has full.
     let reader = pair.reader in
     let since = spans.since_of exchange.span in
     let asked = case.asked in
-    let acts = map placed.placed_value exchange.said.acts.now in
+    let acts = map placed.placed_value c.args.acts.now in
     let all = placed.placed_in recording in
     let first : asked.from ≡ exchange.span.from = case.is_from in
-    let last = last_of case recording full is in
-    let lacking = full.lacking recording is in
+    let last = last_of case acts recording full sent in
+    let lacking = full.lacking recording sent is in
     let unmet : (n : ℕ) → asked.from ≤ n → n ≤ asked.last → stretches.stretches_have c.in_ok-unmet-2.unmet.items n ≡ missed_spec.is_unmet since writer reader all n =
     λ n low high.
     c.in_ok-unmet-2.ensures.same n n
-    ∙ c.in_ok-unmet.ensures exchange (stretches.stretches_have case.lacking.items) recording is full.ledger n (let range = asked.in_range.2 in omega (arith, range, high)) (lacking n low high) in
+    ∙ c.in_ok-unmet.ensures exchange (stretches.stretches_have case.lacking.items) acts recording sent is full.ledger n (let range = asked.in_range.2 in omega (arith, range, high)) (lacking n low high) in
     let missed : (n : ℕ) → asked.from ≤ n → n ≤ asked.last → stretches.stretches_have c.in_ok-missed.missed.items n ≡ missed_spec.is_missed since writer reader all n =
     λ n low high.
-    c.in_ok-missed.ensures recording is n low high
-    ∙ ap (λ b. b && not (missed_spec.is_excused writer reader all n)) (ap (λ l. stretches.stretches_have l n) c.deref.ensures.value ∙ unmet n low high) in
+    let had = stretches.stretches_have c.in_ok-unmet-2.unmet.items n in
+    let excused = missed_spec.is_excused pair.writer pair.reader all n in
+    c.in_ok-missed.ensures n low high
+    ∙ ap (λ b. stretches.stretches_have c.deref-2.result.now n && not b) (ap (λ l. stretches.stretches_have l n) c.deref-3.ensures.value ∙ c.in_ok-excused.ensures recording sent is n)
+    ∙ ap (λ l. stretches.stretches_have l n && not (stretches.stretches_have c.deref.result.now n && excused)) c.deref-2.ensures.value
+    ∙ ap (λ l. had && not (stretches.stretches_have l n && excused)) c.deref.ensures.value
+    ∙ without_both had excused
+    ∙ ap (λ b. b && not excused) (unmet n low high) in
+    let gone : (n : ℕ) → asked.from ≤ n → n ≤ asked.last → stretches.stretches_have c.in_ok-left.left.items n ≡ missed_spec.is_missed_for_good there since writer reader all n =
+    λ n low high.
+    c.in_ok-left.ensures n low high
+    ∙ ap (λ b. b && not (stretches.stretches_have exchange.there.now n)) (missed n low high) ∙ ap (λ b. missed_spec.is_missed since writer reader all n && not b) (has n) in
     let evidence : Evidence = record {
       verdict = case.brief.verdict;
       announcement = c.first_from.result;
@@ -72,38 +82,45 @@ returns-clause-shown c = λ recording there is judged has full.
     subst (λ from. evidence_spec.IsShown there from since pair recording evidence) first (record {
       verdict = subst (λ from. run_verdict.IsVerdictFrom from (speech.speech_by writer reader recording) case.brief.verdict) (sym first) judged;
       announcement = c.first_from.ensures writer acts full.heard.announced
-          ∙ ap (locations.announcement_of exchange.span.from writer (max case.heard.announced.last (exchange.span.from - 1))) is.acts
+          ∙ ap (locations.announcement_of exchange.span.from writer (max case.heard.announced.last (exchange.span.from - 1))) sent
           ∙ announcement_same exchange.span.from writer (max case.heard.announced.last (exchange.span.from - 1)) all
           ∙ ap (λ from. locations.announcement_of from writer (max case.heard.announced.last (from - 1)) all) (sym first)
           ∙ ap (λ n. locations.announcement_of asked.from writer n all) (sym full.last)
           ∙ ap (λ n. locations.announcement_of asked.from writer n all) last;
       acknowledgement = c.find_acknowledgement.ensures pair recording is.answers ∙ ap (λ from. locations.acknowledgement_of from writer reader all) (sym first);
       amounts = subst (λ n. amount.AreAmounts asked.from n writer reader all c.in_ok-amounts.amounts) last
-          (amounts_same asked.from asked.last writer reader all c.in_ok-amounts.amounts (subst (λ l. amount.AreAmounts asked.from asked.last writer reader l c.in_ok-amounts.amounts) is.acts amounts));
-      received = subst (λ n. received.AreReceived asked.from n writer reader all c.in_ok-received.received) last (c.in_ok-received.ensures recording is lacking);
-      missed = subst (λ n. missed_spec.AreMissed there asked.from n since writer reader all c.in_ok-missed-2.missed) last (c.in_ok-missed-2.ensures recording there is has missed);
-      grounds = c.grounds_of.ensures recording is (questions_of_pair pair all acts exchange.said.answers.now case.heard.asked is.acts is.answers full.heard.asked);
+          (amounts_same asked.from asked.last writer reader all c.in_ok-amounts.amounts (subst (λ l. amount.AreAmounts asked.from asked.last writer reader l c.in_ok-amounts.amounts) sent amounts));
+      received = subst (λ n. received.AreReceived asked.from n writer reader all c.in_ok-received.received) last (c.in_ok-received.ensures recording sent is lacking);
+      missed = subst (λ n. missed_spec.AreMissed there asked.from n since writer reader all c.in_ok-missed-2.missed) last (c.in_ok-missed-2.ensures recording there sent is gone);
+      grounds = c.grounds_of.ensures recording sent is (questions_of_pair pair all acts exchange.replies.answers.now case.heard.asked sent is.answers full.heard.asked);
     })
 
 pub returns-clause-beside : goal.returns-clause-beside
-returns-clause-beside c = λ whole recording beside is judged there times full.
+returns-clause-beside c = λ whole recording beside sent is judged there times full.
     let case = c.args.self in
     let exchange = case.brief.exchange in
     let pair = exchange.pair in
     let since = spans.since_of exchange.span in
     let asked = case.asked in
+    let acts = map placed.placed_value c.args.acts.now in
     let all = placed.placed_in recording in
-    let lacking = full.lacking recording is in
+    let lacking = full.lacking recording sent is in
     let unmet : (n : ℕ) → asked.from ≤ n → n ≤ asked.last → stretches.stretches_have c.in_ok-unmet-2.unmet.items n ≡ missed_spec.is_unmet since pair.writer pair.reader all n =
     λ n low high.
     c.in_ok-unmet-2.ensures.same n n
-    ∙ c.in_ok-unmet.ensures exchange (stretches.stretches_have case.lacking.items) recording is full.ledger n (let range = asked.in_range.2 in omega (arith, range, high)) (lacking n low high) in
+    ∙ c.in_ok-unmet.ensures exchange (stretches.stretches_have case.lacking.items) acts recording sent is full.ledger n (let range = asked.in_range.2 in omega (arith, range, high)) (lacking n low high) in
     let missed : (n : ℕ) → asked.from ≤ n → n ≤ asked.last → stretches.stretches_have c.in_ok-missed.missed.items n ≡ missed_spec.is_missed since pair.writer pair.reader all n =
     λ n low high.
-    c.in_ok-missed.ensures recording is n low high
-    ∙ ap (λ b. b && not (missed_spec.is_excused pair.writer pair.reader all n)) (ap (λ l. stretches.stretches_have l n) c.deref.ensures.value ∙ unmet n low high) in
-    c.in_ok-spanned.ensures whole recording beside is there times (last_of case recording full is)
-    (λ n low high. ap (λ l. stretches.stretches_have l n) c.deref-2.ensures.value ∙ lacking n low high)
-    (λ n low high. ap (λ l. stretches.stretches_have l n) c.deref-3.ensures.value ∙ unmet n low high)
-    (λ n low high. ap (λ l. stretches.stretches_have l n) c.deref-4.ensures.value ∙ missed n low high)
-    (subst (λ l. ledger.Stands exchange (stretches.stretches_have l) (map placed.placed_value exchange.said.acts.now) case.ledger) (sym c.deref-2.ensures.value) full.ledger) full.heard
+    let had = stretches.stretches_have c.in_ok-unmet-2.unmet.items n in
+    let excused = missed_spec.is_excused pair.writer pair.reader all n in
+    c.in_ok-missed.ensures n low high
+    ∙ ap (λ b. stretches.stretches_have c.deref-2.result.now n && not b) (ap (λ l. stretches.stretches_have l n) c.deref-3.ensures.value ∙ c.in_ok-excused.ensures recording sent is n)
+    ∙ ap (λ l. stretches.stretches_have l n && not (stretches.stretches_have c.deref.result.now n && excused)) c.deref-2.ensures.value
+    ∙ ap (λ l. had && not (stretches.stretches_have l n && excused)) c.deref.ensures.value
+    ∙ without_both had excused
+    ∙ ap (λ b. b && not excused) (unmet n low high) in
+    c.in_ok-spanned.ensures whole recording beside sent is there times (last_of case acts recording full sent)
+    (λ n low high. ap (λ l. stretches.stretches_have l n) c.deref-4.ensures.value ∙ lacking n low high)
+    (λ n low high. ap (λ l. stretches.stretches_have l n) c.deref-5.ensures.value ∙ unmet n low high)
+    (λ n low high. ap (λ l. stretches.stretches_have l n) c.deref-6.ensures.value ∙ missed n low high)
+    (subst (λ l. ledger.Stands exchange (stretches.stretches_have l) acts case.ledger) (sym c.deref-4.ensures.value) full.ledger) full.heard

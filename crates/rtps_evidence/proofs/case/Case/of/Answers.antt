@@ -6,7 +6,7 @@ use Rattle.rtps_evidence.specs.Ledger as ledger
 use Rattle.rtps_evidence.proofs.case.Case.of.Goals as goal
 
 pub returns-clause-case : goal.returns-clause-case
-returns-clause-case c = λ heard.
+returns-clause-case c = λ acts heard.
     let hearer = c.args.hearer in
     let exchange = hearer.brief.exchange in
     let pair = exchange.pair in
@@ -14,8 +14,8 @@ returns-clause-case c = λ heard.
     record {
       heard = heard;
       last = c.asked-asked.ensures.last ∙ ap (λ from. max hearer.heard.announced.last (from - 1)) (sym c.asked-asked.ensures.from);
-      lacking = λ recording is n low high.
+      lacking = λ recording sent is n low high.
           c.in_ok-lacking.ensures.same n n
-          ∙ c.in_ok-numbers.ensures pair recording is.answers (subst (λ l. claimed.AreHeard exchange.said.answers.now pair l hearer.heard.numbers) is.acts heard.numbers) n low high;
+          ∙ c.in_ok-numbers.ensures pair recording is.answers (subst (λ l. claimed.AreHeard exchange.replies.answers.now pair l hearer.heard.numbers) sent heard.numbers) n low high;
       ledger = subst (λ l. ledger.Stands exchange (stretches.stretches_have l) [] c.in_ok-ledger.ledger) c.deref.ensures.value c.in_ok-ledger.ensures;
     }

@@ -22,14 +22,14 @@ returns c =
     let heard : List (List values.ActValue) → List (List values.ActValue) = hearing.heard_by pair.reader in
     let IsSame : Found → Type 0 = λ kept. (explanation.evidence_value kept.evidence ≡ explanation.evidence_value found.evidence) × (kept.lost ≡ found.lost) in
     record {
-      shown = λ recording there is has.
-          let said = c.in_ok-said.ensures recording is in
-          let was = c.in_ok-found.ensures.shown (heard recording) there said (c.in_ok-verdict.ensures (heard recording) said).verdict has in
+      shown = λ recording there sent is has.
+          let said = c.in_ok-said.ensures recording (c.said.ensures recording sent is) in
+          let was = c.in_ok-found.ensures.shown (heard recording) there said.acts (c.of-replies.ensures pair (heard recording) said) (c.in_ok-verdict.ensures (heard recording) said).verdict has in
           IfOk-weaker c.kept.result IsSame (λ (kept : Found). evidence_spec.IsShown there from since pair (heard recording) kept.evidence)
           (λ kept same. shown_kept there from since pair (heard recording) found.evidence kept.evidence same.0 was) c.kept.ensures;
-      beside = λ whole recording beside is there times.
-          let said = c.in_ok-said.ensures recording is in
-          let was = c.in_ok-found.ensures.beside whole (heard recording) beside said (c.in_ok-verdict.ensures (heard recording) said).verdict there times in
+      beside = λ whole recording beside sent is there times.
+          let said = c.in_ok-said.ensures recording (c.said.ensures recording sent is) in
+          let was = c.in_ok-found.ensures.beside whole (heard recording) beside said.acts (c.of-replies.ensures pair (heard recording) said) (c.in_ok-verdict.ensures (heard recording) said).verdict there times in
           IfOk-weaker c.kept.result IsSame
           (λ (kept : Found). evidence_spec.IsBeside exchange.in_spans beside exchange.span pair whole (heard recording) kept.evidence.in_span × kinds.IsLostIn exchange.in_spans beside exchange.span pair whole (heard recording) (kinds.lost_value kept.lost))
           (λ kept same. (

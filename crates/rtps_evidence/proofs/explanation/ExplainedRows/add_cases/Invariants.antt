@@ -1,6 +1,4 @@
 use Rattle.std.proofs.Common.{◌++◌, All, List, map}
-use Rattle.rtps_audit.specs.Intake as intake_spec
-use Rattle.rtps_discovery.specs.Directory as directory_spec
 use Rattle.rtps_discovery.specs.declared.matching.Pair.{Pair}
 use Rattle.rtps_evidence.specs.Together as together
 use Rattle.rtps_evidence.proofs.explanation.ExplainedRows.add_cases.Given as goal
@@ -8,5 +6,5 @@ use Rattle.rtps_evidence.proofs.explanation.ExplainedRows.add_cases.Given as goa
 -- the rows of the cases so far are added
 abbrev pub invariant-loop-case : goal.invariant-loop-case
 invariant-loop-case l =
-    (setting : together.Setting) (pairs : List Pair) → directory_spec.IsMapOf (intake_spec.acts_together setting.intake.announcing) l.directory → All (together.IsClosed setting) l.fn.cases.items
+    (setting : together.Setting) (pairs : List Pair) → together.AreSidesIn setting l.sides → All (together.IsClosed setting) l.fn.cases.items
     → together.AreRows setting pairs l.fn.self → together.AreRows setting (pairs ++ map together.case_pair l.yielded) l.self

@@ -13,7 +13,7 @@ pub returns : goal.returns
 returns c =
     let exchange = c.args.exchange.now in
     let pair = exchange.pair in
-    let answers = exchange.said.answers.now in
+    let answers = exchange.replies.answers.now in
     let x = placed.placed_value c.args.placed.now in
     on_ok_weaker c.note.result (λ notes acts few claims so.
     let unclaimed : (n : ℕ) → nat_le c.end_at-claimed.result n ≡ claimed.is_unclaimed answers n x =

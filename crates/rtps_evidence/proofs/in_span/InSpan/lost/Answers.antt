@@ -6,7 +6,7 @@ use Rattle.rtps_evidence.proofs.LostLemmas.{kept_all, none_are_lost}
 use Rattle.rtps_evidence.proofs.in_span.InSpan.lost.Goals as goal
 
 pub returns-then-has_all : goal.returns-then-has_all
-returns-then-has_all c = λ recording there is at_host held outcomes sets.
+returns-then-has_all c = λ recording there sent at_host held outcomes sets.
     let exchange = c.args.exchange.now in
     let asked = c.args.asked.now in
     let zero = kept_all c.args.self.now.outcomes (sym c.has_all.ensures ∙ c.if-has_all.true) in

@@ -18,7 +18,7 @@ use Rattle.rtps_evidence.proofs.WaitLemmas.{questions_same}
 use Rattle.rtps_evidence.proofs.in_span.InSpan.of.Goals as goal
 
 pub returns : goal.returns
-returns c = λ whole recording beside is there times last sets stands.
+returns c = λ whole recording beside sent is there times last sets stands.
     let exchange = c.args.exchange.now in
     let pair = exchange.pair in
     let all = placed.placed_in recording in
@@ -37,13 +37,13 @@ returns c = λ whole recording beside is there times last sets stands.
     let waited : c.told.result ≡ waits.told_wait exchange.span pair own_times recording =
     c.told.ensures
     ∙ ap waits.told_of (stands.wait.longest
-    ∙ ap (λ (l : List placed.PlacedValue). waits.longest (waits.waits_of own_times end exchange.said.answers.now l)) (ap (waits.questions_of since pair) is.acts ∙ questions_same since pair all)
+    ∙ ap (λ (l : List placed.PlacedValue). waits.longest (waits.waits_of own_times end exchange.replies.answers.now l)) (ap (waits.questions_of since pair) sent ∙ questions_same since pair all)
     ∙ ap (λ (l : List Answer). waits.longest (waits.waits_of own_times end l (waits.questions_of since pair all))) is.answers) in
     record {
       joined = refl;
       here = refl;
       first = c.get.ensures.value;
-      wrote = c.wrote_before.ensures pair.writer all (subst (λ l. heard.IsAnnounced pair.writer l c.args.sets.now.unreceived.heard.now.announced) is.acts stands.announced);
+      wrote = c.wrote_before.ensures pair.writer all (subst (λ l. heard.IsAnnounced pair.writer l c.args.sets.now.unreceived.heard.now.announced) sent stands.announced);
       until = refl;
       outcomes = subst (λ t. outcomes.AreOutcomes has exchange.span.from (delivery.last_announced_from exchange.span.from (speech.speech_by pair.writer pair.reader recording)) t (spans.since_of exchange.span) pair all c.in_ok-outcomes.outcomes) times
           (subst (λ from. outcomes.AreOutcomes has from (delivery.last_announced_from from (speech.speech_by pair.writer pair.reader recording)) exchange.times.now.of_datagrams (spans.since_of exchange.span) pair all c.in_ok-outcomes.outcomes) c.requires.from counted);
@@ -56,5 +56,5 @@ returns c = λ whole recording beside is there times last sets stands.
           ∙ ap (λ from. first_numbers.kept (outcomes.lacking_of (other_side.is_held whole beside.other pair) has from (delivery.last_announced_from from (speech.speech_by pair.writer pair.reader recording)) pair all))
           c.requires.from;
       wait = waited ∙ ap (λ t. waits.told_wait exchange.span pair t recording) times;
-      waiting = (questions_of_pair pair all _ exchange.said.answers.now c.args.sets.now.unreceived.heard.now.asked is.acts is.answers stands.asked).first;
+      waiting = (questions_of_pair pair all _ exchange.replies.answers.now c.args.sets.now.unreceived.heard.now.asked sent is.answers stands.asked).first;
     }

@@ -19,7 +19,7 @@ returns-then-is_empty c = λ acts so.
     let pair = exchange.pair in
     let since = spans.since_of exchange.span in
     let more = acts ++ placed.placed_value c.args.placed.now ∷ [] in
-    let asks = map placed.placed_value exchange.said.asks.now in
+    let asks = map placed.placed_value exchange.replies.asks.now in
     let lacks = stretches.stretches_have c.args.lacking.now in
     let none : (n : ℕ) → lacks n ≡ false = λ n. none_has c.args.lacking.now n (sym c.is_empty.ensures ∙ c.if-is_empty.true) in
     record {
@@ -43,7 +43,7 @@ returns c =
           ∙ ap (λ s. option_map (requests.met_by s listener.pair n x) (get nat_cmp old.requests n)) c.listener-listener.ensures.since
           ∙ ap (λ (p : Pair). option_map (requests.met_by since p n x) (get nat_cmp old.requests n)) c.listener-listener.ensures.pair
           ∙ ap (option_map (requests.met_by since pair n x)) (so.requests n)
-          ∙ met_more since pair n acts x (requests.requested pair (map placed.placed_value exchange.said.asks.now) lacks n);
+          ∙ met_more since pair n acts x (requests.requested pair (map placed.placed_value exchange.replies.asks.now) lacks n);
       brought = λ n lacking.
           c.in_ok-push_brought.ensures n lacking
           ∙ ap (λ s. stretches.stretches_have old.brought.items n || missed.brings_behind s listener.pair.writer listener.pair.reader n x) c.listener-listener.ensures.since

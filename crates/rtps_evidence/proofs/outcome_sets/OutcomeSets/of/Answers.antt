@@ -1,4 +1,4 @@
-use Rattle.std.proofs.Common.{◌≡◌, ◌∙◌, ◌≤◌, ℕ, Bool, ap, false, map, not, true}
+use Rattle.std.proofs.Common.{◌≡◌, ◌∙◌, ◌≤◌, ℕ, Bool, ap, false, not, true}
 use Rattle.std.specs.List.{list_any}
 use Rattle.rtps_audit.specs.Placed as placed
 use Rattle.rtps_coverage.specs.Stretches as stretches
@@ -11,7 +11,7 @@ use Rattle.rtps_evidence.proofs.QuestionedLemmas.{silent_kept}
 use Rattle.rtps_evidence.proofs.outcome_sets.OutcomeSets.of.Goals as goal
 
 pub returns-clause-sets : goal.returns-clause-sets
-returns-clause-sets c = λ exchange recording is are unmet missed stands.
+returns-clause-sets c = λ exchange acts recording sent is are unmet missed stands.
     let pair = exchange.pair in
     let since = spans.since_of exchange.span in
     let times = exchange.times.now.of_datagrams in
@@ -25,12 +25,12 @@ returns-clause-sets c = λ exchange recording is are unmet missed stands.
     let u : ℕ → Bool = outcomes.is_unanswered times since pair all in
     let lacking_too : (n : ℕ) → from ≤ n → n ≤ last → r n ≡ false → lacks n ≡ true = λ n low high out. are n low high ∙ ap not out in
     let brought : (n : ℕ) → lacks n ≡ true → stretches.stretches_have ledger.brought.items n ≡ b n =
-    λ n lacking. stands.brought n lacking ∙ ap (list_any (missed_spec.brings_behind since pair.writer pair.reader n)) is.acts ∙ brought_same since pair.writer pair.reader n all in
+    λ n lacking. stands.brought n lacking ∙ ap (list_any (missed_spec.brings_behind since pair.writer pair.reader n)) sent ∙ brought_same since pair.writer pair.reader n all in
     let silent : (n : ℕ) → lacks n ≡ true → stretches.stretches_have ledger.silent.numbers.items n ≡ u n =
     λ n lacking.
     silent_kept n _ ledger.silent.questioned _ ((stands.silent n lacking).at n).so
-    ∙ ap (λ l. outcomes.is_silent (outcomes.walked_all times since pair n (record { answers = l; silence = outcomes.Silence.Unasked }) (map placed.placed_value exchange.said.acts.now)).silence) is.answers
-    ∙ ap (λ l. outcomes.is_silent (outcomes.walked_all times since pair n (record { answers = placed.answers_among pair all; silence = outcomes.Silence.Unasked }) l).silence) is.acts in
+    ∙ ap (λ l. outcomes.is_silent (outcomes.walked_all times since pair n (record { answers = l; silence = outcomes.Silence.Unasked }) acts).silence) is.answers
+    ∙ ap (λ l. outcomes.is_silent (outcomes.walked_all times since pair n (record { answers = placed.answers_among pair all; silence = outcomes.Silence.Unasked }) l).silence) sent in
     record {
       lacking = are;
       unmet = unmet;

@@ -11,7 +11,7 @@ use Rattle.rtps_evidence.proofs.silence.SilentNumbers.follow.Goals as goal
 pub returns : goal.returns
 returns c =
     let exchange = c.args.exchange.now in
-    let answers = exchange.said.answers.now in
+    let answers = exchange.replies.answers.now in
     let since = spans.since_of exchange.span in
     let times = exchange.times.now.of_datagrams in
     let pair = exchange.pair in

@@ -16,7 +16,7 @@ returns-then-not-asks_behind c = λ acts so.
     let x = placed.placed_value c.args.placed.now in
     let times = exchange.times.now.of_datagrams in
     let end = times_spec.end_of (said.datagrams_until exchange.span.until times) in
-    let answers = exchange.said.answers.now in
+    let answers = exchange.replies.answers.now in
     let no : questions_spec.questions_behind (spans.since_of exchange.span) exchange.pair.writer exchange.pair.reader x ≡ false =
     sym (c.asks_behind.ensures ∙ ap (λ s. questions_spec.questions_behind s c.listener-listener.result.pair.writer c.listener-listener.result.pair.reader x) c.listener-listener.ensures.since ∙ ap (λ (p : Pair). questions_spec.questions_behind (spans.since_of exchange.span) p.writer p.reader x) c.listener-listener.ensures.pair) ∙ c.if-not-asks_behind.true in
     record {
@@ -30,7 +30,7 @@ returns c = λ acts so.
     let x = placed.placed_value c.args.placed.now in
     let times = exchange.times.now.of_datagrams in
     let end = times_spec.end_of (said.datagrams_until exchange.span.until times) in
-    let answers = exchange.said.answers.now in
+    let answers = exchange.replies.answers.now in
     let questions = waits.questions_of (spans.since_of exchange.span) exchange.pair acts in
     let yes : questions_spec.questions_behind (spans.since_of exchange.span) exchange.pair.writer exchange.pair.reader x ≡ true =
     sym (c.asks_behind.ensures ∙ ap (λ s. questions_spec.questions_behind s c.listener-listener.result.pair.writer c.listener-listener.result.pair.reader x) c.listener-listener.ensures.since ∙ ap (λ (p : Pair). questions_spec.questions_behind (spans.since_of exchange.span) p.writer p.reader x) c.listener-listener.ensures.pair) ∙ c.if-not-asks_behind.false in
