@@ -8,8 +8,11 @@ use Rattle.rtps_page.specs.ChartRoom as chart_room
 use Rattle.rtps_page.proofs.Written.{Token, begin_object, end_object, json_in, json_tokens, members_in, object_of, object_tokens, placed_in, three_parts, tokens_of}
 use Rattle.rtps_page.proofs.page_data.data_of.Goals as goal
 
-before_none : (c : goal.returns-context) → c.end_object.new.self.before ≡ []
-before_none c = c.in_ok-end_object.ensures.room.0 ∙ c.in_ok-push_members.ensures.before ∙ c.in_ok-begin_object.ensures.room.0 ∙ c.new-writer.ensures.before ∙ c.new.ensures.items
+pub returns-clause-utf8 : goal.returns-clause-utf8
+returns-clause-utf8 c =
+    let before : c.end_object.new.self.before ≡ [] =
+    c.in_ok-end_object.ensures.room.0 ∙ c.in_ok-push_members.ensures.before ∙ c.in_ok-begin_object.ensures.room.0 ∙ c.new-writer.ensures.before ∙ c.new.ensures.items in
+    subst IsUtf8 (sym (c.into_inner.ensures.items ∙ ap (λ all. all ++ print c.end_object.new.self.tokens) before)) c.into_inner.ensures.utf8
 
 pub returns-clause-printed : goal.returns-clause-printed
 returns-clause-printed c = λ recording made.

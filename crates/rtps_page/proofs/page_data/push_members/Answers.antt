@@ -21,7 +21,7 @@ returns-clause-tokens c = λ recording made.
     let told = check_members asked facts value in
     let origin = origin_value c.args.shown.now.origin in
     let rows = full_report.rows_of value in
-    let made = recording_member origin times in
+    let titled = recording_member origin times in
     let joining = joined_member times rows in
     let announced = directory_member c.args.shown.now.directory.now in
     let all = chart_room.pairs_of rows in
@@ -30,7 +30,7 @@ returns-clause-tokens c = λ recording made.
     recording_member origin known.times ∷ options_member asked ∷ announced ∷ joined_member known.times rows ∷ chart_members known.times (acts_sent recording) all c.args.pairs.now in
     on_ok_weaker c.push_charts.result
     (λ last.
-    six_parts start (tokens_of told) (tokens_of_member made) (tokens_of_member (options_member asked)) (tokens_of_member announced) (tokens_of_member joining) (tokens_of charts)
+    six_parts start (tokens_of told) (tokens_of_member titled) (tokens_of_member (options_member asked)) (tokens_of_member announced) (tokens_of_member joining) (tokens_of charts)
     c.in_ok-push_check_members.ensures.tokens
     (c.in_ok-push_member.ensures.tokens ∙ ap (λ (member : json_text.Member). c.push_check_members.new.writer.tokens ++ tokens_of_member member)
     c.in_ok-recording.ensures)
