@@ -11,7 +11,8 @@ pub mod OneExplanation
 pub mod AnswerLemmas
 pub mod PlacedOrder
 pub mod HushedRuns
-pub mod ReceivedRuns
+pub mod ReaderLemmas
+mod ReceivedRuns
 pub mod ClaimedLemmas
 pub mod NotReceivedLemmas
 pub mod QuestionLemmas
@@ -36,6 +37,8 @@ pub mod ActOrder
 pub mod UnansweredLemmas
 pub mod RecordedLemmas
 pub mod TimeLemmas
+pub mod DatagramTimeLemmas
+pub mod FrameNumberLemmas
 pub mod WaitLemmas
 pub mod HeardLemmas
 pub mod LedgerLemmas

@@ -164,11 +164,11 @@ no_newcomer from pair intake whole is since = by whole.is_joined_here whole.join
     by true None at place none = sym at ∙ is.here ∙ ap (λ (o : Option Location). spans.is_joined_here o pair (placed.placed_in intake.acts)) place
     by true (Some location) at place none = absurd (cc)
 
-pub positive_lesser : (brought asked : Option ℕ) (lo number : ℕ) (has : ℕ → Bool) → Some number ≡ spans.lesser_of brought asked → IfSome brought (λ n. (1 ≤ n) × (n < 2 ^ 63)) → 1 ≤ lo → spans.IsLeastFrom has lo asked → 1 ≤ number
-positive_lesser (Some one) (Some other) lo number has is (low, high) positive (least, has_it, rest) = let same : number ≡ min one other = (let e : Some number ≡ Some (min one other) = is in cc) in omega arith
-positive_lesser (Some one) None lo number has is (low, high) positive least = let same : number ≡ one = (let e : Some number ≡ Some one = is in cc) in omega arith
-positive_lesser None (Some other) lo number has is low positive (least, has_it, rest) = let same : number ≡ other = (let e : Some number ≡ Some other = is in cc) in omega arith
-positive_lesser None None lo number has is low positive least = absurd (let no : Some number ≡ None = is in cc)
+pub positive_lesser : (brought asked : Option ℕ) (lo number : ℕ) → Some number ≡ spans.lesser_of brought asked → IfSome brought (λ n. (1 ≤ n) × (n < 2 ^ 63)) → 1 ≤ lo → IfSome asked (λ n. lo ≤ n) → 1 ≤ number
+positive_lesser (Some one) (Some other) lo number is (low, high) positive least = let same : number ≡ min one other = (let e : Some number ≡ Some (min one other) = is in cc) in omega arith
+positive_lesser (Some one) None lo number is (low, high) positive least = let same : number ≡ one = (let e : Some number ≡ Some one = is in cc) in omega arith
+positive_lesser None (Some other) lo number is low positive least = let same : number ≡ other = (let e : Some number ≡ Some other = is in cc) in omega arith
+positive_lesser None None lo number is low positive least = absurd (let no : Some number ≡ None = is in cc)
 
 -- where there is no newcomer, the span is settled
 pub span_elsewhere : (from : ℕ) (pair : Pair) (intake : intake_spec.Intake) (acts : List placed.PlacedValue) (spanning : Spanning) → spanning.newcomer ≡ None → newcomers.IsSpanning from pair intake acts spanning → spans.IsSpan from pair intake spanning.span
@@ -230,3 +230,8 @@ spanning_more from pair intake acts more old newcomer owing some step is = recor
 pub none_there : (o : Option Newcomer) → is_some o ≡ false → o ≡ None
 none_there None out = refl
 none_there (Some newcomer) out = absurd (let no : true ≡ false = out in cc)
+
+-- the least number from one on is no smaller
+pub at_least : (has : ℕ → Bool) (lo : ℕ) (o : Option ℕ) → spans.IsLeastFrom has lo o → IfSome o (λ n. lo ≤ n)
+at_least has lo None least = tt
+at_least has lo (Some number) least = least.0

@@ -1,5 +1,4 @@
 -- The greatest of times and their greatest step back, one after another.
-use Rattle.std.proofs.lemmas.Grind.{common_steps}
 use Rattle.std.proofs.lemmas.Bool.Decides.{nat_tests}
 use Rattle.std.proofs.Common.{◌≡◌, ◌∙◌, ℕ, ◌+◌, ◌<◌, ◌||◌, List, [], ◌∷◌, ◌++◌, get_or, length, map, max, take, Option, Some, None, refl, sym, ap, arith}
 use Rattle.std.specs.Prelude.{is_some}
@@ -22,11 +21,6 @@ end_push (one ∷ times) time = ap (times_spec.later_of one) (end_push times tim
 
 pub end_more : (times : List (Option ℕ)) (i : ℕ) → i < length times → times_spec.end_of (take (i + 1) times) ≡ times_spec.later_of (times_spec.end_of (take i times)) (get_or times i None)
 end_more times i lt = ap times_spec.end_of (take_more times i None lt) ∙ end_push (take i times) (get_or times i None)
-
--- the ends up to each, with one more
-pub ends_more : (times ends more : List (Option ℕ)) (i : ℕ) (latest : Option ℕ) → more ≡ ends ++ latest ∷ [] → length ends ≡ i → latest ≡ times_spec.end_of (take (i + 1) times)
-    → ((k : ℕ) → k < i → get_or ends k None ≡ times_spec.end_of (take (k + 1) times)) → (k : ℕ) → k < i + 1 → get_or more k None ≡ times_spec.end_of (take (k + 1) times)
-ends_more times ends more i latest is size last each = grind (arith, nat_tests, common_steps)
 
 -- some time is there where the list has an end
 pub there_is_end : (times : List (Option ℕ)) → is_some (times_spec.end_of times) ≡ times_spec.are_there times

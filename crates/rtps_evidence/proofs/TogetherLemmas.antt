@@ -187,12 +187,13 @@ same_brief one other exchange verdict =
 
 -- the docket of a judgement
 pub docket_is : (setting : together.Setting) (docket : Docket) (judgement : Judgement) (pair : Pair) → docket.judgement ≡ judgement → judgement.pair ≡ pair → judgement.in_spans ≡ setting.spans
-    → spans.IsExtent setting.spans setting.from pair setting.intake judgement.span → IfSome judgement.known (evidence.IsVerdictIn judgement.span pair setting.intake.acts)
+    → spans.IsExtent setting.spans setting.from pair setting.intake judgement.span → (judgement.is_plain ≡ true → together.is_plain setting pair.reader) → IfSome judgement.known (evidence.IsVerdictIn judgement.span pair setting.intake.acts)
     → other_side.AreThere setting.intake.acts setting.beside.other judgement.pair docket.arrivals.way docket.arrivals.is_held docket.arrivals.numbers.items → together.IsDocket setting docket
-docket_is setting docket judgement pair same of_pair in_spans extent known there =
+docket_is setting docket judgement pair same of_pair in_spans extent plain known there =
     subst (λ (j : Judgement). together.IsDocket setting (record { judgement = j; arrivals = docket.arrivals })) (sym same) (record {
       in_spans = in_spans;
       extent = subst (λ (p : Pair). spans.IsExtent setting.spans setting.from p setting.intake judgement.span) (sym of_pair) extent;
+      plain = λ yes. subst (λ (p : Pair). together.is_plain setting p.reader) (sym of_pair) (plain yes);
       known = subst (λ (p : Pair). IfSome judgement.known (evidence.IsVerdictIn judgement.span p setting.intake.acts)) (sym of_pair) known;
       there = there;
     })

@@ -1,6 +1,7 @@
 pub mod Locations
 pub mod Amount
 pub mod FirstNumbers
+pub mod ReaderNotes
 pub mod Received
 pub mod OtherSide
 pub mod Recorded
@@ -28,6 +29,8 @@ pub mod Certificates
 pub mod Explanation
 pub mod Ears
 pub mod Times
+pub mod DatagramTimes
+pub mod FrameNumbers
 pub mod Waits
 pub mod Heard
 pub mod Ledger

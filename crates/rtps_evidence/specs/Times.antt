@@ -1,7 +1,7 @@
 -- When the datagrams of a recording came. own: DDSI-RTPS 2.5 gives a datagram no time of its own, but a capture has the time at which
 -- it took each frame. Times are nanoseconds since 1970 began. A list of them has the time of each datagram in the order of sending,
 -- None where it has none; datagrams count from 1.
-use Rattle.std.specs.Prelude.{ℕ, Bool, true, false, ◌+◌, ◌-◌, ◌/◌, ◌^◌, ◌≡◌, ◌<◌, ◌&&◌, nat_le, nat_lt, if◌then◌else◌, is_some, length, map, max, slice_get, slice_index_or, take, List, [], ◌∷◌, Option, Some, None}
+use Rattle.std.specs.Prelude.{ℕ, Bool, true, false, ◌+◌, ◌-◌, ◌/◌, ◌^◌, ◌&&◌, nat_le, nat_lt, if◌then◌else◌, is_some, map, max, slice_get, slice_index_or, List, [], ◌∷◌, Option, Some, None}
 use Rattle.std.specs.List.{list_any}
 use Rattle.rtps_audit.specs.Delivery as delivery
 use Rattle.rtps_evidence.specs.declared.times.Seconds.{Seconds}
@@ -42,11 +42,6 @@ later_of (Some one) (Some other) = Some (max one other)
 abbrev pub end_of : List (Option ℕ) → Option ℕ
 end_of [] = None
 end_of (time ∷ times) = later_of time (end_of times)
-
--- the greatest of the first times, up to each
-pub record AreEnds (times ends : List (Option ℕ)) : Type 0 where
-  pub size : length ends ≡ length times
-  pub each : (k : ℕ) → k < length times → slice_index_or ends k None ≡ end_of (take (k + 1) times)
 
 -- ---- how far apart
 

@@ -1,6 +1,6 @@
 -- The pairs of one writer, judged by what is taken in. own: what is known of each pair of them stands in one place, from what its row is by to
 -- what is found.
-use Rattle.std.specs.Prelude.{ℕ, Bool, false, ◌≡◌, IfSome, [], filter, map, List}
+use Rattle.std.specs.Prelude.{ℕ, Bool, true, false, ◌≡◌, IfSome, [], filter, map, List}
 use Rattle.rtps_ids.specs.declared.identity.Guid.{Guid}
 use Rattle.rtps_discovery.specs.declared.matching.Pair.{Pair}
 use Rattle.rtps_audit.specs.Intake as intake_spec
@@ -41,6 +41,7 @@ AreSidesIn setting sides = other_side.AreSides setting.intake setting.beside sid
 pub record IsDocket (setting : Setting) (docket : Docket) : Type 0 where
   pub in_spans : docket.judgement.in_spans ≡ setting.spans
   pub extent : spans_spec.IsExtent setting.spans setting.from docket.judgement.pair setting.intake docket.judgement.span
+  pub plain : docket.judgement.is_plain ≡ true → hearing.have_fragments (filter (placed.is_from docket.judgement.pair.reader) (placed.placed_in setting.intake.acts)) ≡ false
   pub known : IfSome docket.judgement.known (evidence.IsVerdictIn docket.judgement.span docket.judgement.pair setting.intake.acts)
   pub there : other_side.AreThere setting.intake.acts setting.beside.other docket.judgement.pair docket.arrivals.way docket.arrivals.is_held docket.arrivals.numbers.items
 

@@ -18,11 +18,12 @@ use crate::first_missed::FirstMissed;
 use crate::grounds::{Grounds, grounds_kept};
 use crate::hearer::Hearer;
 use crate::in_span::InSpan;
-use crate::judgement::{Judgement, verdict_of};
+use crate::judgement::{Basis, Judgement, verdict_of};
 use crate::kinds::LostNumbers;
 use crate::last_announcement::Announcement;
 use crate::not_received::NotReceived;
 use crate::other_side::Sides;
+use crate::reader_notes::ReaderNotes;
 use crate::times::Times;
 use bumpalo::Bump;
 use rtps_audit::{Index, Said, Verdict};
@@ -127,7 +128,13 @@ impl<'a> Evidence<'a> {
             from,
             in_spans: false,
         };
-        let judgement = Judgement::of(index, pair, &[], &extent);
+        let readers = ReaderNotes::none(alloc);
+        let basis = Basis {
+            known: &[],
+            readers: &readers,
+            extent,
+        };
+        let judgement = Judgement::of(index, pair, &basis);
         let docket = Docket::of(alloc, &sides, judgement)?;
         let found = Evidence::of_docket(alloc, &sides, &docket)?;
         Ok(found.evidence)

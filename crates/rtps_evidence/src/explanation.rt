@@ -6,16 +6,18 @@ ghost use Rattle.rtps_audit.specs.Report as report;
 ghost use Rattle.rtps_evidence.specs.Explanation as explanation;
 ghost use Rattle.rtps_evidence.specs.Kinds as kinds;
 ghost use Rattle.rtps_evidence.specs.OtherSide as other_side;
+ghost use Rattle.rtps_evidence.specs.ReaderNotes as reader_notes;
 ghost use Rattle.rtps_evidence.specs.Together as together;
 
 use crate::case::Case;
 use crate::docket::Docket;
 use crate::evidence::{Evidence, Found};
 use crate::exchange::Extent;
-use crate::judgement::Judgement;
+use crate::judgement::{Basis, Judgement};
 use crate::kinds::LostNumbers;
 use crate::leaving_ear::LeavingEar;
 use crate::other_side::Sides;
+use crate::reader_notes::ReaderNotes;
 use crate::times::Times;
 use crate::together::{are_plain, heard_together};
 use bumpalo::Bump;
@@ -179,13 +181,6 @@ fn writer_end(pairs: &[Pair], start: usize) -> usize
     pairs.len()
 }
 
-/// What pairs are judged by, beside the recordings.
-#[derive(Clone, Copy)]
-struct Basis<'k> {
-    known: &'k [Row],
-    extent: Extent,
-}
-
 /// The dockets of pairs.
 fn dockets_of(
     alloc: Global,
@@ -195,11 +190,11 @@ fn dockets_of(
 ) -> Result<Vec<Docket>, Memory>
     ensures pairs { IfOk result (λ dockets. map (λ docket. docket.judgement.pair) dockets.items ≡ pairs.now) }
     ensures dockets { (setting : together.Setting) → together.AreSidesIn setting sides.now → setting.spans ≡ basis.now.extent.in_spans → setting.from ≡ basis.now.extent.from
-        → All (report.IsJudgedFrom setting.from setting.intake.acts) basis.now.known.now → IfOk result (λ dockets. All (together.IsDocket setting) dockets.items) }
+        → reader_notes.AreNotes setting.intake basis.now.readers.now.notes → All (report.IsJudgedFrom setting.from setting.intake.acts) basis.now.known.now → IfOk result (λ dockets. All (together.IsDocket setting) dockets.items) }
 {
     let mut dockets = Vec::with_capacity(alloc, pairs.len())?;
     for pair in pairs {
-        let judgement = Judgement::of(sides.index, *pair, basis.known, &basis.extent);
+        let judgement = Judgement::of(sides.index, *pair, basis);
         let docket = Docket::of(alloc, sides, judgement)?;
         dockets.push(docket)?;
     }
@@ -222,7 +217,12 @@ pub fn explain_pairs<'a, P: Watch>(
         → All (report.IsJudgedFrom extent.from intake.acts) known.now
         → IfOk result (λ found. explanation.AreExplained extent.in_spans extent.from beside intake pairs.now found.rows.items (map kinds.lost_value found.lost.items)) }
 {
-    let basis = Basis { known, extent };
+    let readers = ReaderNotes::of(alloc, sides.index, pairs)?;
+    let basis = Basis {
+        known,
+        readers: &readers,
+        extent,
+    };
     let rows = Vec::with_capacity(alloc, pairs.len())?;
     let lost = Vec::with_capacity(alloc, pairs.len())?;
     let mut explained = ExplainedRows { rows, lost };

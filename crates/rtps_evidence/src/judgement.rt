@@ -1,15 +1,19 @@
-ghost use Rattle.std.specs.Prelude.{ℕ, ◌≡◌, All, IfOk, IfSome, List};
+ghost use Rattle.std.specs.Prelude.{ℕ, ◌≡◌, true, false, filter, All, IfOk, IfSome, List};
 ghost use Rattle.rtps_receiver.specs.Values as values;
 ghost use Rattle.rtps_audit.specs.Index as index_spec;
 ghost use Rattle.rtps_audit.specs.Intake as intake;
+ghost use Rattle.rtps_audit.specs.Placed as placed;
 ghost use Rattle.rtps_audit.specs.Report as report;
 ghost use Rattle.rtps_audit.specs.RunVerdict as run_verdict;
 ghost use Rattle.rtps_audit.specs.Said as said_spec;
 ghost use Rattle.rtps_audit.specs.Speech as speech;
+ghost use Rattle.rtps_fragments.specs.Hearing as hearing;
 ghost use Rattle.rtps_evidence.specs.Evidence as evidence;
+ghost use Rattle.rtps_evidence.specs.ReaderNotes as reader_notes;
 ghost use Rattle.rtps_evidence.specs.Spans as spans;
 
 use crate::exchange::{Exchange, Extent};
+use crate::reader_notes::ReaderNotes;
 use crate::span::Span;
 use rtps_audit::{FirstAsked, Index, Row, Verdict};
 use rtps_discovery::Pair;
@@ -25,14 +29,25 @@ pub(crate) struct Judgement {
     pub(crate) in_spans: bool,
     /// By the acts as they are sent in the span, where it is known.
     pub(crate) known: Option<Verdict>,
+    /// Whether the reader is known to send no fragments.
+    pub(crate) is_plain: bool,
+}
+
+/// What pairs are judged by, beside the recordings.
+#[derive(Clone, Copy)]
+pub(crate) struct Basis<'k> {
+    /// Rows of a report by the same numbers: what they say need not be found again.
+    pub(crate) known: &'k [Row],
+    pub(crate) readers: &'k ReaderNotes,
+    pub(crate) extent: Extent,
 }
 
 /// What the row of a pair is by: its span, where rows are in spans, or else the whole recording.
-pub(crate) fn span_of(index: &Index<'_>, pair: Pair, extent: &Extent) -> Span
-    ensures { (intake : intake.Intake) → index_spec.IsIndexBy intake index.now → spans.IsExtent extent.now.in_spans extent.now.from pair intake result }
+pub(crate) fn span_of(index: &Index<'_>, readers: &ReaderNotes, pair: Pair, extent: &Extent) -> Span
+    ensures { (intake : intake.Intake) → index_spec.IsIndexBy intake index.now → reader_notes.AreNotes intake readers.now.notes → spans.IsExtent extent.now.in_spans extent.now.from pair intake result }
 {
     if extent.in_spans {
-        Span::of(index, pair, extent.from)
+        Span::of(index, readers, pair, extent.from)
     } else {
         Span::whole(index, pair, extent.from)
     }
@@ -73,20 +88,25 @@ fn known_in(span: &Span, known: &[Row], pair: Pair, from: SeqNum) -> Option<Verd
 }
 
 impl Judgement {
-    /// What the row of a pair is by, where these are rows of a report by the same numbers: what they say need not be found again.
-    pub(crate) fn of(index: &Index<'_>, pair: Pair, known: &[Row], extent: &Extent) -> Judgement
+    /// What the row of a pair is by.
+    pub(crate) fn of(index: &Index<'_>, pair: Pair, basis: &Basis<'_>) -> Judgement
         ensures pair { result.pair ≡ pair }
-        ensures in_spans { result.in_spans ≡ extent.now.in_spans }
-        ensures extent { (intake : intake.Intake) → index_spec.IsIndexBy intake index.now → spans.IsExtent extent.now.in_spans extent.now.from pair intake result.span }
-        ensures known { (acts : List (List values.ActValue)) → All (report.IsJudgedFrom extent.now.from acts) known.now → IfSome result.known (evidence.IsVerdictIn result.span pair acts) }
+        ensures in_spans { result.in_spans ≡ basis.now.extent.in_spans }
+        ensures extent { (intake : intake.Intake) → index_spec.IsIndexBy intake index.now → reader_notes.AreNotes intake basis.now.readers.now.notes
+            → spans.IsExtent basis.now.extent.in_spans basis.now.extent.from pair intake result.span }
+        ensures known { (acts : List (List values.ActValue)) → All (report.IsJudgedFrom basis.now.extent.from acts) basis.now.known.now → IfSome result.known (evidence.IsVerdictIn result.span pair acts) }
+        ensures plain { result.is_plain ≡ true → (intake : intake.Intake) → reader_notes.AreNotes intake basis.now.readers.now.notes
+            → hearing.have_fragments (filter (placed.is_from pair.reader) (placed.placed_in intake.acts)) ≡ false }
     {
-        let span = span_of(index, pair, extent);
-        let known = known_in(&span, known, pair, extent.from);
+        let extent = &basis.extent;
+        let span = span_of(index, basis.readers, pair, extent);
+        let known = known_in(&span, basis.known, pair, extent.from);
         Judgement {
             pair,
             span,
             in_spans: extent.in_spans,
             known,
+            is_plain: basis.readers.is_plain(pair.reader),
         }
     }
 }

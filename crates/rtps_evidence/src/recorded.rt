@@ -13,6 +13,7 @@ use crate::exchange::Extent;
 use crate::first_numbers::FirstNumbers;
 use crate::judgement::span_of;
 use crate::other_side::{Arrivals, Sides};
+use crate::reader_notes::ReaderNotes;
 use crate::said_to::said_to;
 use crate::way::Way;
 use bumpalo::Bump;
@@ -121,7 +122,8 @@ pub fn recorded_of(
 ) -> Result<Recorded, Memory>
     ensures { (intake : intake.Intake) → index_spec.IsIndexBy intake index.now → IfOk result (recorded_spec.IsRecordedBy extent.in_spans extent.from pair intake) }
 {
-    let span = span_of(index, pair, &extent);
+    let readers = ReaderNotes::none(alloc);
+    let span = span_of(index, &readers, pair, &extent);
     let sent = Said::until(index, pair, span.until);
     let from = span.from.get();
     let behind = greatest_sent(sent.acts, pair.writer) + 1;
@@ -155,7 +157,8 @@ pub fn arrived_of(
     ensures { (intake : intake.Intake) (beside : other_side.Beside) → other_side.AreSides intake beside sides.now
         → IfOk result (recorded_spec.IsArrivedBy extent.in_spans extent.from beside.other pair intake) }
 {
-    let span = span_of(sides.index, pair, &extent);
+    let readers = ReaderNotes::none(alloc);
+    let span = span_of(sides.index, &readers, pair, &extent);
     let mut arrivals = Arrivals::of(alloc, sides, pair)?;
     let way = arrivals.way;
     if !arrivals.is_held {

@@ -7,10 +7,12 @@ ghost use Rattle.rtps_audit.specs.Intake as intake;
 ghost use Rattle.rtps_audit.specs.Placed as placed_spec;
 ghost use Rattle.rtps_evidence.specs.Missed as missed;
 ghost use Rattle.rtps_evidence.specs.Newcomers as newcomers;
+ghost use Rattle.rtps_evidence.specs.ReaderNotes as reader_notes;
 ghost use Rattle.rtps_evidence.specs.Spans as spans;
 
 use crate::location::{Location, is_behind};
 use crate::newcomer::{Newcomer, Owing, lesser};
+use crate::reader_notes::ReaderNotes;
 use rtps_audit::{AnnouncedPlace, Answer, FirstAsked, Index, Placed};
 use rtps_discovery::{Durability, Pair, leaves, leaving_writers};
 use rtps_ids::{Guid, SeqNum};
@@ -113,6 +115,20 @@ fn least_asked(acts: &[Placed<'_>], pair: Pair, lo: u64) -> Option<u64>
     least
 }
 
+/// The least number from `lo` on that the pair's reader asks its writer for. The acts of a reader that is known to ask for none are not gone
+/// through.
+fn least_asked_of(index: &Index<'_>, readers: &ReaderNotes, pair: Pair, lo: u64) -> Option<u64>
+    ensures least { (intake : intake.Intake) → index_spec.IsIndexBy intake index.now → reader_notes.AreNotes intake readers.now.notes
+        → spans.IsLeastFrom (λ n. list_any (missed.asks_for pair.writer pair.reader n) (filter (placed_spec.is_from pair.reader) (placed_spec.placed_in intake.acts))) lo result }
+    ensures high { IfSome result (λ number. lo ≤ number) }
+    ensures in_range { IfSome result (λ number. number < 2 ^ 63) }
+{
+    if readers.asks_for_none(pair.reader) {
+        return None;
+    }
+    least_asked(index.acts_of(pair.reader), pair, lo)
+}
+
 /// Whether it is the durability of a reader that asks for nothing that was written before.
 fn is_lowest(durability: Durability) -> bool
     ensures { result ≡ spans.is_lowest durability }
@@ -136,8 +152,8 @@ fn is_volatile(index: &Index<'_>, reader: Guid) -> bool
 }
 
 /// The least number that is owed to a newcomer, which the writer's acts tell: the least that is for it, of those that may be owed.
-fn first_owed(index: &Index<'_>, newcomer: &Newcomer, owing: &Owing) -> u64
-    ensures first { (intake : intake.Intake) → index_spec.IsIndexBy intake index.now
+fn first_owed(index: &Index<'_>, readers: &ReaderNotes, newcomer: &Newcomer, owing: &Owing) -> u64
+    ensures first { (intake : intake.Intake) → index_spec.IsIndexBy intake index.now → reader_notes.AreNotes intake readers.now.notes
         → newcomers.IsOwing newcomer.now (filter (placed_spec.is_from newcomer.now.pair.writer) (placed_spec.placed_in intake.acts)) owing.now
         → spans.IsFirstOwed (newcomers.owed_to newcomer.now owing.now) newcomer.now.place newcomer.now.pair (placed_spec.placed_in intake.acts) result }
     ensures positive { 1 ≤ result }
@@ -146,7 +162,7 @@ fn first_owed(index: &Index<'_>, newcomer: &Newcomer, owing: &Owing) -> u64
     let pair = newcomer.pair;
     let owed = owing.owed(newcomer);
     let brought = owing.brought(index.acts_of(pair.writer), newcomer);
-    let asked = least_asked(index.acts_of(pair.reader), pair, owed);
+    let asked = least_asked_of(index, readers, pair, owed);
     match lesser(brought, asked) {
         Some(number) => number,
         None => owed,
@@ -205,12 +221,17 @@ pub fn left_in(index: &Index<'_>, reader: Guid, place: Location) -> Option<u64>
 
 /// The number from which on a row is, of a newcomer, which the writer's acts tell.
 #[tactic(auto, using(crate::proofs::NewcomerLemmas::first_in))]
-fn first_number(index: &Index<'_>, newcomer: &Newcomer, owing: &Owing) -> FirstAsked
-    ensures { (intake : intake.Intake) → index_spec.IsIndexBy intake index.now → spans.IsVolatileIn intake newcomer.now.pair.reader newcomer.now.is_volatile
+fn first_number(
+    index: &Index<'_>,
+    readers: &ReaderNotes,
+    newcomer: &Newcomer,
+    owing: &Owing,
+) -> FirstAsked
+    ensures { (intake : intake.Intake) → index_spec.IsIndexBy intake index.now → reader_notes.AreNotes intake readers.now.notes → spans.IsVolatileIn intake newcomer.now.pair.reader newcomer.now.is_volatile
         → newcomers.IsOwing newcomer.now (filter (placed_spec.is_from newcomer.now.pair.writer) (placed_spec.placed_in intake.acts)) owing.now
         → spans.IsFirstIn newcomer.now.from newcomer.now.place newcomer.now.pair intake result }
 {
-    match FirstAsked::new(first_owed(index, newcomer, owing)) {
+    match FirstAsked::new(first_owed(index, readers, newcomer, owing)) {
         Some(first) => first,
         None => newcomer.from,
     }
@@ -255,8 +276,8 @@ impl Span {
     }
 
     /// The span of a writer and a reader, any two GUIDs, by the numbers from `from` on. It takes no memory.
-    pub fn of(index: &Index<'_>, pair: Pair, from: SeqNum) -> Span
-        ensures { (intake : intake.Intake) → index_spec.IsIndexBy intake index.now → spans.IsSpan from pair intake result }
+    pub(crate) fn of(index: &Index<'_>, readers: &ReaderNotes, pair: Pair, from: SeqNum) -> Span
+        ensures { (intake : intake.Intake) → index_spec.IsIndexBy intake index.now → reader_notes.AreNotes intake readers.now.notes → spans.IsSpan from pair intake result }
     {
         let mut spanning = Spanning::new(index, pair, from);
         if spanning.newcomer.is_none() {
@@ -265,7 +286,7 @@ impl Span {
         for placed in index.acts_of(pair.writer) {
             spanning.hear(placed);
         }
-        spanning.span(index)
+        spanning.span(index, readers)
     }
 
     /// The place behind which acts are since the reader joined; None where all are.
@@ -326,13 +347,13 @@ impl Spanning {
     }
 
     /// The span, where all acts of the writer were told.
-    pub(crate) fn span(&self, index: &Index<'_>) -> Span
-        ensures { (from : ℕ) (pair : PairValue) (intake : intake.Intake) → index_spec.IsIndexBy intake index.now
+    pub(crate) fn span(&self, index: &Index<'_>, readers: &ReaderNotes) -> Span
+        ensures { (from : ℕ) (pair : PairValue) (intake : intake.Intake) → index_spec.IsIndexBy intake index.now → reader_notes.AreNotes intake readers.now.notes
             → newcomers.IsSpanning from pair intake (filter (placed_spec.is_from pair.writer) (placed_spec.placed_in intake.acts)) self.now → spans.IsSpan from pair intake result }
     {
         match &self.newcomer {
             Some(newcomer) => Span {
-                from: first_number(index, newcomer, &self.owing),
+                from: first_number(index, readers, newcomer, &self.owing),
                 ..self.span
             },
             None => self.span,

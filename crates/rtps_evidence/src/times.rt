@@ -2,6 +2,8 @@ ghost use Rattle.std.specs.Prelude.{◌≡◌, take, IfOk};
 ghost use Rattle.rtps_audit.specs.Said as said;
 ghost use Rattle.rtps_evidence.specs.Times as times_spec;
 
+use crate::datagram_times::{DatagramTimes, later};
+use crate::frame_numbers::FrameNumbers;
 use rtps_ids::Memory;
 use std::alloc::Global;
 use std::marker::Model;
@@ -50,11 +52,9 @@ pub struct Times {
     /// The greatest time of a frame of the capture, whether it gave a datagram or not.
     end: Option<u64>,
     /// The time of each datagram. There are none of a text.
-    of_datagrams: Vec<Option<u64>>,
-    /// The greatest time among the first datagrams, up to each.
-    ends: Vec<Option<u64>>,
+    of_datagrams: DatagramTimes,
     /// The number of the frame that gave or completed each datagram, counted from 1. There are none of a text.
-    frames: Vec<u64>,
+    frames: FrameNumbers,
 }
 
 impl Model for Times {
@@ -62,20 +62,7 @@ impl Model for Times {
 
     ghost Value = { times_spec.TimesValue };
 
-    ghost view = { λ times. record { start = times.start; end = times.end; of_datagrams = times.of_datagrams.items; frames = times.frames.items } };
-
-    ghost invariant = { λ times. times_spec.AreEnds times.of_datagrams.items times.ends.items };
-}
-
-/// The later of two times, where there are two.
-fn later(one: Option<u64>, other: Option<u64>) -> Option<u64>
-    ensures { result ≡ times_spec.later_of one other }
-{
-    match (one, other) {
-        (Some(one), Some(other)) => Some(one.max(other)),
-        (Some(one), None) => Some(one),
-        (None, other) => other,
-    }
+    ghost view = { λ times. record { start = times.start; end = times.end; of_datagrams = times.of_datagrams; frames = times.frames } };
 }
 
 /// By how much a time is before an earlier one, where there are both.
@@ -89,17 +76,23 @@ fn back(earlier: Option<u64>, time: Option<u64>) -> u64
     }
 }
 
-/// The greatest of these times, up to each of them.
-fn ends_of(alloc: Global, times: &[Option<u64>]) -> Result<Vec<Option<u64>>, Memory>
-    ensures { IfOk result (λ ends. times_spec.AreEnds times.now ends.items) }
+/// The same as [`Times::of`], by what is lent.
+fn kept_of(
+    alloc: Global,
+    bounds: (Option<u64>, Option<u64>),
+    of_datagrams: &[Option<u64>],
+    frames: &[u64],
+) -> Result<Times, Memory>
+    ensures { IfOk result (λ times. times ≡ record { start = bounds.0; end = bounds.1; of_datagrams = of_datagrams.now; frames = frames.now }) }
 {
-    let mut ends = Vec::with_capacity(alloc, times.len())?;
-    let mut latest = None;
-    for time in times {
-        latest = later(latest, *time);
-        ends.push(latest)?;
-    }
-    Ok(ends)
+    let of_datagrams = DatagramTimes::of(alloc, of_datagrams)?;
+    let frames = FrameNumbers::of(alloc, frames)?;
+    Ok(Times {
+        start: bounds.0,
+        end: bounds.1,
+        of_datagrams,
+        frames,
+    })
 }
 
 impl Times {
@@ -110,9 +103,8 @@ impl Times {
         Times {
             start: None,
             end: None,
-            of_datagrams: Vec::new(alloc),
-            ends: Vec::new(alloc),
-            frames: Vec::new(alloc),
+            of_datagrams: DatagramTimes::none(alloc),
+            frames: FrameNumbers::none(alloc),
         }
     }
 
@@ -126,14 +118,7 @@ impl Times {
     ) -> Result<Times, Memory>
         ensures { IfOk result (λ times. times ≡ record { start = bounds.0; end = bounds.1; of_datagrams = of_datagrams.items; frames = frames.items }) }
     {
-        let ends = ends_of(alloc, &of_datagrams)?;
-        Ok(Times {
-            start: bounds.0,
-            end: bounds.1,
-            of_datagrams,
-            ends,
-            frames,
-        })
+        kept_of(alloc, bounds, &of_datagrams, &frames)
     }
 
     /// The number of the frame that gave or completed a datagram. Both count from 1: it is None of 0, past the last, and of a text.
@@ -143,7 +128,7 @@ impl Times {
         if datagram == 0 {
             return None;
         }
-        self.frames.get(datagram as usize - 1).copied()
+        self.frames.get(datagram as usize - 1)
     }
 
     /// The time of the first frame of the capture that has one. None of a text, and where no frame has a time.
@@ -171,10 +156,10 @@ impl Times {
     pub fn of_datagram(&self, number: u64) -> Option<u64>
         ensures { result ≡ times_spec.time_of self.now.of_datagrams number }
     {
-        if number == 0 || (self.of_datagrams.len() as u64) < number {
+        if number == 0 {
             return None;
         }
-        self.of_datagrams[number as usize - 1]
+        self.of_datagrams.at(number as usize - 1)
     }
 
     /// Whether the second of two datagrams came 100 ms or more behind the first; so it is said where one of them has no time.
@@ -188,15 +173,11 @@ impl Times {
         }
     }
 
-    /// The greatest time among the first `count` datagrams, or among all where there are no more. It takes one step.
+    /// The greatest time among the first `count` datagrams, or among all where there are no more.
     pub fn end(&self, count: usize) -> Option<u64>
         ensures { result ≡ times_spec.end_of (take count self.now.of_datagrams) }
     {
-        let count = count.min(self.ends.len());
-        if count == 0 {
-            return None;
-        }
-        self.ends[count - 1]
+        self.of_datagrams.end(count)
     }
 
     /// The greatest time among the datagrams before this one, which is counted from 1; among all, where there is none.
@@ -216,9 +197,10 @@ impl Times {
     {
         let mut step = 0u64;
         let mut latest = None;
-        for time in &self.of_datagrams {
-            step = step.max(back(latest, *time));
-            latest = later(latest, *time);
+        for place in 0..self.of_datagrams.len() {
+            let time = self.of_datagrams.at(place);
+            step = step.max(back(latest, time));
+            latest = later(latest, time);
         }
         step
     }

@@ -17,30 +17,26 @@ use rtps_fragments::laws::{pairs_are_heard_without_fragments, verdicts_stay_with
 use rtps_ids::{Guid, Memory};
 use std::alloc::Global;
 
-/// Whether a docket is of a pair of a writer, and its reader sends no fragments.
-fn is_plain(index: &Index<'_>, writer: Guid, docket: &Docket) -> bool
+/// Whether a docket is of a pair of a writer, and its reader is known to send no fragments.
+fn is_plain(writer: Guid, docket: &Docket) -> bool
     ensures writer { result ≡ true → docket.now.judgement.pair.writer ≡ writer }
-    ensures plain { result ≡ true → (setting : together.Setting) → index_spec.IsIndexBy setting.intake index.now → together.is_plain setting docket.now.judgement.pair.reader }
+    ensures plain { result ≡ true → docket.now.judgement.is_plain ≡ true }
 {
-    let pair = docket.judgement.pair;
-    if pair.writer != writer {
-        return false;
-    }
-    !have_fragments(index.acts_of(pair.reader))
+    docket.judgement.is_plain && docket.judgement.pair.writer == writer
 }
 
 /// Whether all these are so, and the writer sends no fragments.
 pub(crate) fn are_plain(index: &Index<'_>, writer: Guid, dockets: &[Docket]) -> bool
     ensures sends { result ≡ true → (setting : together.Setting) → index_spec.IsIndexBy setting.intake index.now → together.is_plain setting writer }
     ensures writer { result ≡ true → All (λ docket. docket.judgement.pair.writer ≡ writer) dockets.now }
-    ensures plain { result ≡ true → (setting : together.Setting) → index_spec.IsIndexBy setting.intake index.now
+    ensures plain { result ≡ true → (setting : together.Setting) → All (together.IsDocket setting) dockets.now
         → All (λ docket. together.is_plain setting docket.judgement.pair.reader) dockets.now }
 {
     if have_fragments(index.acts_of(writer)) {
         return false;
     }
     for docket in dockets {
-        if !is_plain(index, writer, docket) {
+        if !is_plain(writer, docket) {
             return false;
         }
     }

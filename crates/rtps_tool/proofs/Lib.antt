@@ -7,6 +7,7 @@ pub mod OneText
 pub mod OpeningLemmas
 pub mod ReadingLemmas
 pub mod RunsLemmas
+pub mod SumsLemmas
 pub mod RecordingLemmas
 pub mod UnfinishedLemmas
 pub mod WordsLemmas

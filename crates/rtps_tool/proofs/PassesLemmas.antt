@@ -3,8 +3,6 @@ use Rattle.std.proofs.Common.{◌≡◌, ◌≤◌, ◌++◌, ◌∷◌, [], ℕ
 use Rattle.std.specs.Prelude.{IfSome, MatchResult, None, Option, Some, Result, Ok, Err}
 use Rattle.std.specs.Option.{option_map}
 use Rattle.std.specs.Io.KnownBytes.{Appends, Consumes, Keeps}
-use Rattle.std.specs.Hash.DefaultHasher as sip
-use Rattle.std.specs.declared.hash.DefaultHasher.{DefaultHasher}
 use Rattle.std.proofs.lemmas.List.{length-append, map-append, take_all}
 use Rattle.std.proofs.lemmas.List.Elements.{All-weaker}
 use Rattle.std.proofs.lemmas.List.Folds.{flat_map-map}
@@ -59,9 +57,9 @@ use Rattle.rtps_tool.proofs.UnfinishedLemmas.{octets_of-untimed, recording_of-ca
 -- ---- what is told of a datagram more
 
 -- the sum over one more
-pub sum_more : (start : DefaultHasher) (before : List course.DatagramValue) (one : course.DatagramValue) (now : DefaultHasher)
+pub sum_more : (start : ℕ) (before : List course.DatagramValue) (one : course.DatagramValue) (now : ℕ)
     → now ≡ sums.sum_of start before → sums.sum_with now one ≡ sums.sum_of start (before ++ one ∷ [])
-sum_more start before one now was = ap (λ (sum : DefaultHasher). sums.sum_with sum one) was ∙ sym (fold-append sums.sum_with start before (one ∷ []))
+sum_more start before one now was = ap (λ (sum : ℕ). sums.sum_with sum one) was ∙ sym (fold-append sums.sum_with start before (one ∷ []))
 
 octets_more : (before : List course.DatagramValue) (one : course.DatagramValue) → sums.octets_of (before ++ one ∷ []) ≡ sums.octets_of before ++ one.octets ∷ []
 octets_more before one = map-append (λ (one : course.DatagramValue). one.octets) before (one ∷ [])
@@ -210,13 +208,13 @@ nothing_written limits captures before now RunFault.Memory is = tt
 nothing_written limits captures before now RunFault.Changed is = absurd is
 
 -- and it is found again
-pub not_changed : (all : List ℕ) (first : FirstPass) (Took : List course.DatagramValue → Type 0) (state : DefaultHasher) (whole : Whole) (sum : ℕ) → passes.IsFirstOf all first
-    → passes.IsFoundOf first.terms.limits first.terms.captures all (λ datagrams. Took datagrams × (state ≡ sums.sum_of sip.initial datagrams)) whole → sum ≡ sip.finish state
+pub not_changed : (all : List ℕ) (first : FirstPass) (Took : List course.DatagramValue → Type 0) (state : ℕ) (whole : Whole) (sum : ℕ) → passes.IsFirstOf all first
+    → passes.IsFoundOf first.terms.limits first.terms.captures all (λ datagrams. Took datagrams × (state ≡ sums.sum_of sums.initial datagrams)) whole → sum ≡ state
     → passes.is_found_again first whole sum ≡ false → ⊥
 not_changed all first Took state whole sum is found summed differs =
     let octets : passes.size_of whole ≡ passes.size_of first.whole =
     size_of_whole first.terms.limits first.terms.captures all whole found.0 ∙ sym (size_of_whole first.terms.limits first.terms.captures all first.whole is.whole) in
-    let same : sum ≡ first.sum = summed ∙ ap sip.finish found.1.1 ∙ sym is.sum in
+    let same : sum ≡ first.sum = summed ∙ found.1.1 ∙ sym is.sum in
     let both : passes.is_found_again first whole sum ≡ true = rw (octets, same) (grind arith) in
     true≢false (sym both ∙ differs)
 

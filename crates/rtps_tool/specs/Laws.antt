@@ -1,12 +1,14 @@
 -- What a reader of the definitions would ask of the runs. own: what a run prints can be trusted only if nothing but the
 -- input decides it, and a limit that is raised must not change what was told within it.
-use Rattle.std.specs.Prelude.{ℕ, ◌<◌, ◌≡◌, ◌≤◌, true, false, All, List, Option, Some, Ok, Err}
+use Rattle.std.specs.Prelude.{ℕ, ◌<◌, ◌≡◌, ◌≤◌, ◌^◌, ◌++◌, ◌∷◌, true, false, All, List, Option, Some, Ok, Err}
 use Rattle.std.specs.Io.KnownBytes.{Appends}
+use Rattle.std.specs.List.{fold}
 use Rattle.rtps_report.specs.Recording as recording
 use Rattle.rtps_report.specs.declared.findings.Ending.{Ending}
 use Rattle.rtps_tool.specs.Forms as forms
 use Rattle.rtps_tool.specs.RecordingText as recording_text
 use Rattle.rtps_tool.specs.Runs as runs
+use Rattle.rtps_tool.specs.Sums as sums
 use Rattle.rtps_capture.specs.declared.captures.Captures.{Captures}
 use Rattle.rtps_tool.specs.declared.faults.RecFault.{RecFault}
 use Rattle.rtps_tool.specs.declared.runs.Limits.{Limits}
@@ -47,3 +49,9 @@ NoTextBeginsAsACapture =
 abbrev pub TextsStayTexts : Type 0
 TextsStayTexts =
     (limits : Limits) (input : List ℕ) → forms.begins_capture Captures.Any input ≡ false → forms.recording_within limits Captures.Any input ≡ forms.recording_within limits Captures.Classic input
+
+-- of lists of words that differ in one word, the sums differ
+abbrev pub EachWordTells : Type 0
+EachWordTells =
+    (before behind : List ℕ) (sum one other : ℕ) → sum < 2 ^ 64 → one < 2 ^ 64 → other < 2 ^ 64
+    → fold sums.sum_word sum (before ++ one ∷ behind) ≡ fold sums.sum_word sum (before ++ other ∷ behind) → one ≡ other

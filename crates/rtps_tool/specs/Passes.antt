@@ -2,7 +2,6 @@
 -- read again for what the first reading does not tell; where the octets of the input are known, this changes nothing of what is written.
 use Rattle.std.specs.Prelude.{ℕ, ◌==◌, ◌≡◌, ◌≤◌, ◌&&◌, Bool, false, true, List, [], length, Option, Some, None, Result, Ok, Err}
 use Rattle.std.specs.Io.KnownBytes.{Appends, Keeps}
-use Rattle.std.specs.Hash.DefaultHasher as sip
 use Rattle.rtps_capture.specs.Course as course
 use Rattle.rtps_capture.specs.declared.captures.Captures.{Captures}
 use Rattle.rtps_report.specs.Recording as recording
@@ -78,7 +77,7 @@ octets_in first all = sums.octets_of (datagrams_in first all)
 -- the first pass was over a recording of these octets
 pub record IsFirstOf (all : List ℕ) (first : FirstPass) : Type 0 where
   pub whole : IsAllOf first.terms.limits first.terms.captures all first.whole
-  pub sum : first.sum ≡ sip.finish (sums.sum_of sip.initial (datagrams_in first all))
+  pub sum : first.sum ≡ sums.sum_of sums.initial (datagrams_in first all)
 
 -- another pass found as many octets, and datagrams with the same sum
 abbrev pub is_found_again : FirstPass → Whole → ℕ → Bool

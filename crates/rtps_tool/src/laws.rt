@@ -52,3 +52,8 @@ pub fn no_text_begins_as_a_capture()
 pub fn texts_stay_texts()
     ensures { laws.TextsStayTexts }
 {}
+
+/// The sum of a pass tells each word: where one word of what is summed is another, so is the sum.
+pub fn each_word_is_told()
+    ensures { laws.EachWordTells }
+{}

@@ -19,6 +19,7 @@ ghost use Rattle.rtps_tool.specs.Runs as runs_spec;
 mod first_pass;
 mod pass;
 mod reading;
+mod sum;
 mod takers;
 
 use crate::faults::RunFault;

@@ -1,11 +1,10 @@
 ghost use Rattle.std.specs.Prelude.{◌≡◌};
-ghost use Rattle.std.specs.Hash.DefaultHasher as sip;
 ghost use Rattle.rtps_tool.specs.Sums as sums;
 
 use crate::form::taking::Take;
+use crate::passes::sum::{INITIAL, sum_octets};
 use rtps_capture::Datagram;
 use rtps_ids::Memory;
-use std::hash::{DefaultHasher, Hasher};
 
 /// A pass over the datagrams of a recording: its taker, and a sum over the datagrams that it was told.
 #[derive(Drop)]
@@ -13,27 +12,27 @@ pub(crate) struct Pass<T> {
     /// Its number, from 1 on.
     pub(crate) number: u8,
     pub(crate) taker: T,
-    sum: DefaultHasher,
+    sum: u64,
 }
 
 impl<T> Pass<T> {
     /// Before all datagrams.
     pub(crate) fn new(number: u8, taker: T) -> Self
         ensures taker { result.taker ≡ taker }
-        ensures sum { result.sum ≡ sip.initial }
+        ensures sum { result.sum ≡ sums.initial }
     {
         Pass {
             number,
             taker,
-            sum: DefaultHasher::new(),
+            sum: INITIAL,
         }
     }
 
     /// The sum over the datagrams that it was told.
     pub(crate) fn sum(&self) -> u64
-        ensures { result ≡ sip.finish self.now.sum }
+        ensures { result ≡ self.now.sum }
     {
-        self.sum.finish()
+        self.sum
     }
 
     pub(crate) fn into_taker(self) -> T
@@ -47,9 +46,7 @@ impl<T: Take> Take for Pass<T> {
     ghost has_taken = { λ start datagrams pass. T.has_taken start.taker datagrams pass.taker × (pass.sum ≡ sums.sum_of start.sum datagrams) };
 
     fn take(&mut self, datagram: &Datagram<'_>) -> Result<(), Memory> {
-        let size = datagram.octets.len() as u64;
-        self.sum.write(&size.to_le_bytes());
-        self.sum.write(datagram.octets);
+        self.sum = sum_octets(self.sum, datagram.octets);
         self.taker.take(datagram)
     }
 }

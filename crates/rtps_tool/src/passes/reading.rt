@@ -1,9 +1,9 @@
 //! A recording that is read again from its start.
 
 ghost use Rattle.std.specs.Prelude.{ℕ, ◌≡◌, [], length, List, Some, IfErr, IfSome, MatchResult};
-ghost use Rattle.std.specs.Hash.DefaultHasher as sip;
 ghost use Rattle.rtps_tool.specs.CaptureBlocks as capture_blocks;
 ghost use Rattle.rtps_tool.specs.Passes as passes_spec;
+ghost use Rattle.rtps_tool.specs.Sums as sums;
 ghost use Rattle.rtps_tool.specs.declared.faults.RunFault.TheVariants.{Input};
 
 use crate::faults::RunFault;
@@ -82,7 +82,7 @@ pub(crate) fn first_pass<R: Read, S: Source<R>, T: Take>(
     reader: &mut R,
     pass: &mut Pass<T>,
 ) -> Result<FirstPass, RunFault>
-    ensures known { (all : List ℕ) (start : T) → S.octets source.now ≡ Some all → pass.old.sum ≡ sip.initial → T.has_taken start [] pass.old.taker
+    ensures known { (all : List ℕ) (start : T) → S.octets source.now ≡ Some all → pass.old.sum ≡ sums.initial → T.has_taken start [] pass.old.taker
         → MatchResult result
         (λ first. (first.terms ≡ terms) × passes_spec.IsFirstOf all first × T.has_taken start (passes_spec.datagrams_in first all) pass.new.taker)
         (passes_spec.FailsOn terms.limits terms.captures all) }
@@ -104,7 +104,7 @@ pub(crate) fn read_again<R: Read, S: Source<R>, T: Take>(
     reader: &mut R,
     pass: &mut Pass<T>,
 ) -> Result<(), RunFault>
-    ensures known { (all : List ℕ) (start : T) → S.octets source.now ≡ Some all → passes_spec.IsFirstOf all first → pass.old.sum ≡ sip.initial
+    ensures known { (all : List ℕ) (start : T) → S.octets source.now ≡ Some all → passes_spec.IsFirstOf all first → pass.old.sum ≡ sums.initial
         → T.has_taken start [] pass.old.taker
         → MatchResult result (λ _. T.has_taken start (passes_spec.datagrams_in first all) pass.new.taker) capture_blocks.IsNoRecFault }
     ensures fault { IfErr result passes_spec.IsReadFault }

@@ -28,14 +28,14 @@ loop-pair-preserved c =
       pairs =
           ap (map pair_of) items ∙ map-append pair_of old (docket ∷ []) ∙ ap (λ l. l ++ docket.judgement.pair ∷ []) c.loop-pair.invariant.pairs
           ∙ ap (λ p. take i all ++ p ∷ []) (ap (λ (j : Judgement). j.pair) same ∙ of_pair) ∙ sym (take_more all i _ lt);
-      dockets = λ setting sides same_spans same_from known.
+      dockets = λ setting sides same_spans same_from notes known.
           let intake = setting.intake in
           let judged = subst (λ (from : ℕ). All (report.IsJudgedFrom from intake.acts) basis.known.now) same_from known in
           let extent = λ (pair : Pair) (is : spans.IsExtent basis.extent.in_spans basis.extent.from pair intake judgement.span).
           subst (λ b. spans.IsExtent b setting.from pair intake judgement.span) (sym same_spans) (subst (λ (from : ℕ). spans.IsExtent basis.extent.in_spans from pair intake judgement.span) (sym same_from) is) in
           subst (All (together.IsDocket setting)) (sym items)
-          (All-push (together.IsDocket setting) old docket (c.loop-pair.invariant.dockets setting sides same_spans same_from known)
-          (docket_is setting docket judgement _ same of_pair (c.of-judgement.ensures.in_spans ∙ sym same_spans) (extent _ (c.of-judgement.ensures.extent intake sides.index)) (c.of-judgement.ensures.known intake.acts judged) (c.in_ok-docket.ensures.there intake setting.beside sides)));
+          (All-push (together.IsDocket setting) old docket (c.loop-pair.invariant.dockets setting sides same_spans same_from notes known)
+          (docket_is setting docket judgement _ same of_pair (c.of-judgement.ensures.in_spans ∙ sym same_spans) (extent _ (c.of-judgement.ensures.extent intake sides.index notes)) (λ yes. c.of-judgement.ensures.plain yes intake notes) (c.of-judgement.ensures.known intake.acts judged) (c.in_ok-docket.ensures.there intake setting.beside sides)));
     }
 
 pub returns-clause-pairs : goal.returns-clause-pairs

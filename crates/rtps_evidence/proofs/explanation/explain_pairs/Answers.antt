@@ -31,7 +31,7 @@ writers-preserved g c =
       within = c.writer_end-end.ensures.within;
       rows = λ intake beside sides known.
           let setting : together.Setting = record { spans = c.args.extent.in_spans; from = c.args.extent.from; beside = beside; intake = intake } in
-          let dockets = subst (All (together.IsDocket setting)) (sym c.deref.ensures.value) (c.in_ok-dockets.ensures.dockets setting sides refl refl known) in
+          let dockets = subst (All (together.IsDocket setting)) (sym c.deref.ensures.value) (c.in_ok-dockets.ensures.dockets setting sides refl refl (c.in_ok-readers.ensures intake sides.index) known) in
           let added = c.in_ok-add_dockets.ensures setting (take start pairs) sides dockets (c.writers.invariant.rows intake beside sides known) in
           subst (λ (l : List Pair). together.AreRows setting l c.add_dockets.new.self) (ap (λ l. take start pairs ++ l) (ap (map pair_of) c.deref.ensures.value ∙ c.in_ok-dockets.ensures.pairs) ∙ joined) added;
     }

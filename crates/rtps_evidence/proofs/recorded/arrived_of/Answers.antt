@@ -27,7 +27,7 @@ returns c = λ intake beside are.
     (λ n low high. ap not (c.in_ok-arrived.ensures.same n)) in
     record {
       span = span;
-      is_extent = c.span_of-span.ensures intake are.index;
+      is_extent = c.span_of-span.ensures intake are.index (c.none-readers.ensures intake);
       way = there.way_is;
       arrived = (
         sym there.holds ∙ c.if-not-arrivals.false,

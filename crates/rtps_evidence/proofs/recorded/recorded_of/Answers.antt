@@ -23,7 +23,7 @@ returns c = λ intake is.
     let numbers : c.saturating_sub.result ≡ behind - from = omega arith in
     record {
       span = span;
-      is_extent = c.span_of-span.ensures intake is;
+      is_extent = c.span_of-span.ensures intake is (c.none-readers.ensures intake);
       are_recorded = recorded_in span pair (placed.placed_in (said_spec.datagrams_until span.until intake.acts)) (placed.placed_in (spans_spec.heard_in span pair intake.acts)) own (map placed.placed_value c.in_ok-heard.heard.acts.now) told from behind
           (record { numbers = c.saturating_sub.result; recorded = c.in_ok-recorded.recorded }) said.acts hears.acts first end c.in_ok-told.ensures
           numbers (c.in_ok-recorded.ensures.count ∙ ap (counts.count_in (stretches.stretches_have told) from) c.max.ensures);

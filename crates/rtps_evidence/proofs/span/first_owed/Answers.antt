@@ -7,21 +7,21 @@ use Rattle.rtps_evidence.proofs.NewcomerLemmas.{first_owed_by, positive_lesser}
 use Rattle.rtps_evidence.proofs.span.first_owed.Goals as goal
 
 pub returns-in-Some-clause-first : goal.returns-in-Some-clause-first
-returns-in-Some-clause-first c = λ intake is owes.
+returns-in-Some-clause-first c = λ intake is notes owes.
     let newcomer = c.args.newcomer.now in
     let all = placed.placed_in intake.acts in
-    let asked = subst (λ (l : List placed.PlacedValue). spans.IsLeastFrom (λ n. list_any (missed.asks_for newcomer.pair.writer newcomer.pair.reader n) l) c.owed-owed.result c.least_asked-asked.result) (c.acts_of-2.ensures intake is) c.least_asked-asked.ensures.least in
-    first_owed_by newcomer c.args.owing.now all _ c.owed-owed.result c.brought-brought.result c.least_asked-asked.result (Some c.in-Some.number) c.in-Some.number (c.acts_of.ensures intake is) c.brought-brought.ensures.least asked c.owed-owed.ensures.owed
+    let asked = c.least_asked_of-asked.ensures.least intake is notes in
+    first_owed_by newcomer c.args.owing.now all _ c.owed-owed.result c.brought-brought.result c.least_asked_of-asked.result (Some c.in-Some.number) c.in-Some.number (c.acts_of.ensures intake is) c.brought-brought.ensures.least asked c.owed-owed.ensures.owed
     (sym c.in-Some.is ∙ c.lesser.ensures) refl owes
 
 pub returns-in-None-clause-first : goal.returns-in-None-clause-first
-returns-in-None-clause-first c = λ intake is owes.
+returns-in-None-clause-first c = λ intake is notes owes.
     let newcomer = c.args.newcomer.now in
     let all = placed.placed_in intake.acts in
-    let asked = subst (λ (l : List placed.PlacedValue). spans.IsLeastFrom (λ n. list_any (missed.asks_for newcomer.pair.writer newcomer.pair.reader n) l) c.owed-owed.result c.least_asked-asked.result) (c.acts_of-2.ensures intake is) c.least_asked-asked.ensures.least in
-    first_owed_by newcomer c.args.owing.now all _ c.owed-owed.result c.brought-brought.result c.least_asked-asked.result None c.owed-owed.result (c.acts_of.ensures intake is) c.brought-brought.ensures.least asked c.owed-owed.ensures.owed
+    let asked = c.least_asked_of-asked.ensures.least intake is notes in
+    first_owed_by newcomer c.args.owing.now all _ c.owed-owed.result c.brought-brought.result c.least_asked_of-asked.result None c.owed-owed.result (c.acts_of.ensures intake is) c.brought-brought.ensures.least asked c.owed-owed.ensures.owed
     (sym c.in-None.is ∙ c.lesser.ensures) refl owes
 
 pub returns-in-Some-clause-positive : goal.returns-in-Some-clause-positive
 returns-in-Some-clause-positive c =
-    positive_lesser c.brought-brought.result c.least_asked-asked.result c.owed-owed.result c.in-Some.number _ (sym c.in-Some.is ∙ c.lesser.ensures) c.brought-brought.ensures.in_range c.owed-owed.ensures.positive c.least_asked-asked.ensures.least
+    positive_lesser c.brought-brought.result c.least_asked_of-asked.result c.owed-owed.result c.in-Some.number (sym c.in-Some.is ∙ c.lesser.ensures) c.brought-brought.ensures.in_range c.owed-owed.ensures.positive c.least_asked_of-asked.ensures.high

@@ -16,9 +16,10 @@ loop-docket-preserved c =
     record {
       writer = All-more (λ (docket : Docket). docket.judgement.pair.writer ≡ c.args.writer) all i docket lt c.loop-docket.invariant.writer
           (subst (λ (docket : Docket). docket.judgement.pair.writer ≡ c.args.writer) c.docket-item.is (c.is_plain.ensures.writer yes));
-      plain = λ setting is.
-          All-more (λ (docket : Docket). together.is_plain setting docket.judgement.pair.reader) all i docket lt (c.loop-docket.invariant.plain setting is)
-          (subst (λ (docket : Docket). together.is_plain setting docket.judgement.pair.reader) c.docket-item.is (c.is_plain.ensures.plain yes setting is));
+      plain = λ setting are.
+          let this : together.IsDocket setting docket = subst (together.IsDocket setting) (sym c.docket-item.is) (are i docket lt) in
+          All-more (λ (docket : Docket). together.is_plain setting docket.judgement.pair.reader) all i docket lt (c.loop-docket.invariant.plain setting are)
+          (subst (λ (docket : Docket). together.is_plain setting docket.judgement.pair.reader) c.docket-item.is (this.plain (c.is_plain.ensures.plain yes)));
     }
 
 pub returns : goal.returns
@@ -27,5 +28,5 @@ returns c =
     record {
       sends = λ yes setting is. ap hearing.have_fragments (sym (c.acts_of.ensures setting.intake is)) ∙ sym c.have_fragments.ensures ∙ c.if-have_fragments.false;
       writer = λ yes. subst (All (λ (docket : Docket). docket.judgement.pair.writer ≡ c.args.writer)) all c.loop-docket.invariant.writer;
-      plain = λ yes setting is. subst (All (λ (docket : Docket). together.is_plain setting docket.judgement.pair.reader)) all (c.loop-docket.invariant.plain setting is);
+      plain = λ yes setting are. subst (All (λ (docket : Docket). together.is_plain setting docket.judgement.pair.reader)) all (c.loop-docket.invariant.plain setting are);
     }

@@ -14,6 +14,6 @@ pub returns : goal.returns
 returns c = λ setting pairs sides dockets rows.
     let yes = c.if-not-are_plain.false in
     let closed = c.in_ok-cases.ensures.closed setting _ sides dockets (c.acts_of-acts.ensures setting.intake sides.index) (c.are_plain.ensures.writer yes)
-    (c.are_plain.ensures.sends yes setting sides.index) (c.are_plain.ensures.plain yes setting sides.index) in
+    (c.are_plain.ensures.sends yes setting sides.index) (c.are_plain.ensures.plain yes setting dockets) in
     subst (λ (l : List Pair). together.AreRows setting (pairs ++ l) c.add_cases.new.self) c.in_ok-cases.ensures.pairs
     (c.in_ok-add_cases.ensures setting pairs (c.directory.ensures setting.intake sides.index) closed rows)

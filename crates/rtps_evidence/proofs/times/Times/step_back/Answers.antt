@@ -4,5 +4,5 @@ use Rattle.std.proofs.Common.{arith}
 use Rattle.rtps_evidence.proofs.TimeLemmas.{end_more, step_more}
 use Rattle.rtps_evidence.proofs.times.Times.step_back.Goals as goal
 
-pub loop-time-preserved : goal.loop-time-preserved
-loop-time-preserved c = grind (arith, nat_tests, common_steps, end_more, step_more)
+pub loop-place-preserved : goal.loop-place-preserved
+loop-place-preserved c = grind (arith, nat_tests, common_steps, end_more, step_more)
