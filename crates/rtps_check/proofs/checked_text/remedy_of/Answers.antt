@@ -27,7 +27,7 @@ returns-in-Some c = λ recording made.
     let asked = asked.asked_value report.asked.now in
     let value = full_report.report_value report in
     let rows = report.explained.rows.items in
-    let why = c.in-Some.why.now in
+    let why = c.in-Some.why in
     IfOk-weaker c.no_pair_remedy.result (λ text. string_bytes text ≡ no_pair_text.no_pair_text value.talk why.cause (map one_sides.one_sided_value why.one_sides.items))
     (λ text. check_text.IsRemedyBy rows asked recording value (string_bytes text))
     (λ text is. some_there rows asked recording value why (string_bytes text) (subst (no_pair.IsNoPairBy rows asked recording value.talk) c.in-Some.is made.no_pair) is)
