@@ -15,11 +15,6 @@ use Rattle.rtps_report.specs.declared.findings.TalkFacts.{TalkFacts}
 use Rattle.rtps_report.specs.declared.recording.Reasons.{Reasons}
 use Rattle.rtps_report.proofs.full_report.report_on.Goals as goal
 
-pub no_pair_in-requires : goal.no_pair_in-requires
-no_pair_in-requires g c =
-    let other = reader_side.other_by (reader_side.arrived_value c.args.inquiry.arrived) in
-    (c.in_ok-noted.ensures other (c.beside-other.ensures other c.in_ok-side.ensures)).0
-
 pub returns : goal.returns
 returns g c =
     let asked = c.args.inquiry.asked.now in
