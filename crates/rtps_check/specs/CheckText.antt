@@ -27,6 +27,8 @@ use Rattle.rtps_report.specs.Events as events
 use Rattle.rtps_report.specs.FullReport as full_report
 use Rattle.rtps_report.specs.NoteFacts as note_facts
 use Rattle.rtps_report.specs.Recording as recording
+use Rattle.rtps_report.specs.Recording.{facts_in}
+use Rattle.rtps_report.specs.declared.recording.Reasons.{Reasons}
 use Rattle.rtps_report.specs.Totals as totals
 use Rattle.rtps_report.specs.RowFacts as row_facts
 use Rattle.rtps_report.specs.SideFacts as side_facts
@@ -375,14 +377,14 @@ beside_value told =
     }
 
 -- what is told beside the rows of this report, with this remedy and these names
-abbrev pub beside_of : asked.AskedValue → recording.RecordingValue → full_report.ReportValue → List ℕ → List ℕ → List talk.LeftOutValue → Beside
-beside_of asked recording report remedy talking left_out =
+abbrev pub beside_of : asked.AskedValue → recording.RecordingFactsValue → full_report.ReportValue → List ℕ → List ℕ → List talk.LeftOutValue → Beside
+beside_of asked facts report remedy talking left_out =
     record {
-      times = recording.times;
+      times = facts.times;
       lost = full_report.lost_of report;
       remedy = remedy;
       events = events.events_of asked report;
-      facts = note_facts.note_facts asked recording report;
+      facts = note_facts.note_facts asked facts report;
       side = side_facts.side_facts report;
       talking = talking;
       left_out = left_out;
@@ -401,7 +403,7 @@ pub record IsCheckText (asked : asked.AskedValue) (recording : recording.Recordi
   pub left_out_by_topic : talk_text.AreLeftByTopic report.talk.left_out left_out
   pub remedy : List ℕ
   pub is_remedy : IsRemedyIn asked recording report remedy
-  pub is_text : IsTextBy (note_facts.scope_of asked recording report) (beside_of asked recording report remedy (notes.talking_names talking) left_out) (map explanation.explanation_value rows) text
+  pub is_text : IsTextBy (note_facts.scope_of asked (facts_in recording) report) (beside_of asked (facts_in recording) report remedy (notes.talking_names talking) left_out) (map explanation.explanation_value rows) text
 
 -- what `check` answers of what is asked of a recording, beside another one, if there is one: the text of its report, and the ending
 abbrev pub IsCheckedTextAs : asked.AskedValue → Option recording.RecordingValue → recording.RecordingValue → List ℕ → Ending → Type 0
@@ -411,7 +413,7 @@ IsCheckedTextAs asked other recording text ending = full_report.IsTold IsCheckTe
 
 -- it is the line of the object of this report
 abbrev pub IsCheckJson : asked.AskedValue → recording.RecordingValue → full_report.ReportValue → List ℕ → Type 0
-IsCheckJson asked recording report text = json_text.IsJsonLine (json_text.object_of (check_members.check_members asked recording report)) text
+IsCheckJson asked recording report text = json_text.IsJsonLine (json_text.object_of (check_members.check_members asked (facts_in recording) report)) text
 
 -- what `check --json` answers of what is asked of a recording, beside another one, if there is one: that line of the rows that are asked
 -- for, in the order of the report, and the ending of `check`
@@ -426,5 +428,5 @@ IsCleanWithoutReasons asked scope rows ending = (ending ≡ Ending.Clean) ↔ (c
 
 -- Whatever is asked of whatever rows, a run ends clean exactly where it gives no reason. own: a job that ends unclean has to say why.
 abbrev pub TellsWhyUnclean : Type 0
-TellsWhyUnclean = (talk : TalkFacts) (order : Order) (asked : asked.AskedValue) (unread : Bool) (rows : List explanation.ExplanationValue) (counts : Counts) (recording : recording.RecordingValue)
-    → IsCleanWithoutReasons asked (record { from = asked.from; tail = asked.tail; unread = unread }) rows (findings.ending_as asked (full_report.facts_with talk order asked rows counts recording))
+TellsWhyUnclean = (talk : TalkFacts) (order : Order) (asked : asked.AskedValue) (unread : Bool) (rows : List explanation.ExplanationValue) (counts : Counts) (reasons : Option Reasons)
+    → IsCleanWithoutReasons asked (record { from = asked.from; tail = asked.tail; unread = unread }) rows (findings.ending_as asked (full_report.facts_with talk order asked rows counts reasons))

@@ -3,6 +3,7 @@ ghost use Rattle.rtps_evidence.specs.Explanation as explanation;
 ghost use Rattle.rtps_parts.specs.Parts as parts;
 ghost use Rattle.rtps_report.specs.Asked as asked;
 ghost use Rattle.rtps_report.specs.FullReport as full_report;
+ghost use Rattle.rtps_report.specs.Recording as recording_spec;
 ghost use Rattle.rtps_check.specs.CheckText as check_text_spec;
 
 use crate::arrived_block::push_arrived_block;
@@ -221,20 +222,19 @@ fn text_of(alloc: Global, told: &CheckFacts<'_, '_>) -> Result<String, AllocErro
 
 /// What to do where a report has no pair to judge; nothing where it has some.
 fn remedy_of(alloc: Global, report: &FullReport<'_>) -> Result<String, AllocError>
-    requires { full_report.IsIndexed report.now }
-    ensures { IfOk result (λ text. check_text_spec.IsRemedyIn (asked.asked_value report.now.asked.now) report.now.recording.now (full_report.report_value report.now) (string_bytes text)) }
+    ensures { (recording : recording_spec.RecordingValue) → full_report.IsMadeOf recording report.now
+        → IfOk result (λ text. check_text_spec.IsRemedyIn (asked.asked_value report.now.asked.now) recording (full_report.report_value report.now) (string_bytes text)) }
 {
-    if report.explained.rows.is_empty() {
-        no_pair_remedy(alloc, report)
-    } else {
-        Ok(String::new(alloc))
+    match &report.no_pair {
+        Some(why) => no_pair_remedy(alloc, &report.talk, why),
+        None => Ok(String::new(alloc)),
     }
 }
 
-/// What `check` prints of a report.
+/// What `check` prints of a report, which is of any recording that it is made of.
 pub fn check_text(alloc: Global, report: &FullReport<'_>) -> Result<String, AllocError>
-    requires { full_report.IsIndexed report.now }
-    ensures { IfOk result (λ text. check_text_spec.IsCheckText (asked.asked_value report.now.asked.now) report.now.recording.now (full_report.report_value report.now) (string_bytes text)) }
+    ensures { (recording : recording_spec.RecordingValue) → full_report.IsMadeOf recording report.now
+        → IfOk result (λ text. check_text_spec.IsCheckText (asked.asked_value report.now.asked.now) recording (full_report.report_value report.now) (string_bytes text)) }
 {
     let rows = by_topic(alloc, &report.explained.rows)?;
     let remedy = remedy_of(alloc, report)?;
@@ -246,7 +246,7 @@ pub fn check_text(alloc: Global, report: &FullReport<'_>) -> Result<String, Allo
         scope: scope_of(report),
         lost: LostRows {
             rows: &report.explained.lost,
-            times: report.recording.times(),
+            times: report.facts.times,
         },
         facts: notes_on(report),
         side: facts_of_side(report),
@@ -263,9 +263,10 @@ pub fn check_text(alloc: Global, report: &FullReport<'_>) -> Result<String, Allo
     Ok(text)
 }
 
-/// What `check --json` prints of a report.
+/// What `check --json` prints of a report, which is of any recording that it is made of.
 pub fn check_json(alloc: Global, report: &FullReport<'_>) -> Result<String, AllocError>
-    ensures { IfOk result (λ text. check_text_spec.IsCheckJson (asked.asked_value report.now.asked.now) report.now.recording.now (full_report.report_value report.now) (string_bytes text)) }
+    ensures { (recording : recording_spec.RecordingValue) → full_report.IsMadeOf recording report.now
+        → IfOk result (λ text. check_text_spec.IsCheckJson (asked.asked_value report.now.asked.now) recording (full_report.report_value report.now) (string_bytes text)) }
 {
     let mut writer = Writer::new(Vec::new(alloc));
     writer.begin_object()?;

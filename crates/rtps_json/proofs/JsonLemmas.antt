@@ -311,17 +311,17 @@ reasons_within : (reasons : Option Reasons) → members_depth (json_text.members
 reasons_within None = omega arith
 reasons_within (Some reasons) = omega arith
 
-pub rows_depth : (telling : Option json_text.TellingValue) (rows : List explanation.ExplanationValue) (counts : Counts) (recording : recording.RecordingValue) → members_depth (json_text.members_of (json_text.rows_members telling rows counts recording)) ≤ 7
-rows_depth telling rows counts recording =
-    let frames = joined 0 (json_text.ignored_members recording.ignored) (json_text.reasons_members recording.reasons) (ignored_within recording.ignored) (reasons_within recording.reasons) in
-    let last = joined 0 (json_text.counts_members counts) (json_text.ignored_members recording.ignored ++ json_text.reasons_members recording.reasons) (omega arith) frames in
-    omega (arith, rows_within telling (json_text.times_told telling recording.times) rows, last)
+pub rows_depth : (telling : Option json_text.TellingValue) (rows : List explanation.ExplanationValue) (counts : Counts) (facts : recording.RecordingFactsValue) → members_depth (json_text.members_of (json_text.rows_members telling rows counts facts)) ≤ 7
+rows_depth telling rows counts facts =
+    let frames = joined 0 (json_text.ignored_members facts.ignored) (json_text.reasons_members facts.reasons) (ignored_within facts.ignored) (reasons_within facts.reasons) in
+    let last = joined 0 (json_text.counts_members counts) (json_text.ignored_members facts.ignored ++ json_text.reasons_members facts.reasons) (omega arith) frames in
+    omega (arith, rows_within telling (json_text.times_told telling facts.times) rows, last)
 
-pub report_depth : (rows : List explanation.ExplanationValue) (counts : Counts) (recording : recording.RecordingValue) → depth (json_text.report_json rows counts recording) ≤ 8
-report_depth rows counts recording = omega (arith, rows_depth None rows counts recording)
+pub report_depth : (rows : List explanation.ExplanationValue) (counts : Counts) (facts : recording.RecordingFactsValue) → depth (json_text.report_json rows counts facts) ≤ 8
+report_depth rows counts facts = omega (arith, rows_depth None rows counts facts)
 
-pub report_within : (rows : List explanation.ExplanationValue) (counts : Counts) (recording : recording.RecordingValue) → depth (json_text.report_json rows counts recording) ≤ max_depth
-report_within rows counts recording = omega (arith, report_depth rows counts recording)
+pub report_within : (rows : List explanation.ExplanationValue) (counts : Counts) (facts : recording.RecordingFactsValue) → depth (json_text.report_json rows counts facts) ≤ max_depth
+report_within rows counts facts = omega (arith, report_depth rows counts facts)
 
 -- the grammar of JSON reads a value back, where its tokens are read back
 pub reads_back : (json : Json) → depth json ≤ max_depth → tokens (print (json_tokens json)) ≡ json_tokens json → document (print (json_tokens json)) ≡ Some json

@@ -26,15 +26,15 @@ use Rattle.rtps_json.specs.TalkMembers as talk_members
 use Rattle.rtps_report.proofs.Offered.{same_talk}
 
 -- the members of these rows and counts, and of who does not talk, beside another recording, if there is one, given in this order
-abbrev members_with : asked.AskedValue → recording.RecordingValue → Option recording.RecordingValue → Order → Ending → Counts → List explanation.ExplanationValue → List kinds.LostValue → talk.TalkValue → List json_text.Member
-members_with asked recording arrived order ending counts rows lost talk =
-    let scope : Scope = record { from = asked.from; tail = asked.tail; unread = note_facts.is_unread counts recording.reasons } in
+abbrev members_with : asked.AskedValue → recording.RecordingFactsValue → Option recording.RecordingFactsValue → Order → Ending → Counts → List explanation.ExplanationValue → List kinds.LostValue → talk.TalkValue → List json_text.Member
+members_with asked facts arrived order ending counts rows lost talk =
+    let scope : Scope = record { from = asked.from; tail = asked.tail; unread = note_facts.is_unread counts facts.reasons } in
     check_members.status_members ending (causes.causes_of asked.certain (totals.totals_of scope rows) (causes.findings_in ending))
-    ++ (json_text.rows_members (Some (record { scope = scope; talk = talk; lost = lost; times = recording.times; has_other = is_some arrived })) rows counts recording
+    ++ (json_text.rows_members (Some (record { scope = scope; talk = talk; lost = lost; times = facts.times; has_other = is_some arrived })) rows counts facts
     ++ ((talk_members.unmatched_member talk.unmatched ∷ talk_members.talking_member talk.talking ∷ talk_members.unobserved_member talk.silence talk.left_out ∷ talk_members.one_way_member talk.one_way
-    ∷ (discovery_members.discovery_members recording.times talk (late_rows.late_rows talk rows)
-    ++ talk_members.best_effort_member talk.best_effort ∷ (talk_members.held_members (is_some arrived) talk.held ++ talk_members.participants_member recording.times talk ∷ [])))
-    ++ check_members.last_members (is_some arrived) order.wrong (event_members.events_member recording.times talk (events.events_by asked talk lost rows)) (notes.notes (codes " -> ") (note_facts.facts_by talk rows scope counts recording)
+    ∷ (discovery_members.discovery_members facts.times talk (late_rows.late_rows talk rows)
+    ++ talk_members.best_effort_member talk.best_effort ∷ (talk_members.held_members (is_some arrived) talk.held ++ talk_members.participants_member facts.times talk ∷ [])))
+    ++ check_members.last_members (is_some arrived) order.wrong (event_members.events_member facts.times talk (events.events_by asked talk lost rows)) (notes.notes (codes " -> ") (note_facts.facts_by talk rows scope counts facts)
     (record {
       talk = talk;
       talking = [];
@@ -49,7 +49,7 @@ members_with asked recording arrived order ending counts rows lost talk =
     }))))
 
 -- a report of which all this is the same has the same members
-pub same_members : (asked : asked.AskedValue) (recording : recording.RecordingValue) (one other : full_report.ReportValue) → laws.AreSame one other → check_members.check_members asked recording one ≡ check_members.check_members asked recording other
-same_members asked recording one other same =
+pub same_members : (asked : asked.AskedValue) (facts : recording.RecordingFactsValue) (one other : full_report.ReportValue) → laws.AreSame one other → check_members.check_members asked facts one ≡ check_members.check_members asked facts other
+same_members asked facts one other same =
     let talk = same_talk one.talk other.talk same.talk in
-    λ i. members_with asked recording (same.arrived i) (same.order i) (same.ending i) (same.counts i) (same.rows i) (same.lost i) (talk i)
+    λ i. members_with asked facts (same.arrived i) (same.order i) (same.ending i) (same.counts i) (same.rows i) (same.lost i) (talk i)

@@ -31,25 +31,25 @@ abbrev pub notes_members : List (List ℕ) → List json_text.Member
 notes_members notes = (codes "notes", json_text.array_of (map string notes)) ∷ []
 
 -- the events of this report
-abbrev pub report_events : asked.AskedValue → recording.RecordingValue → full_report.ReportValue → json_text.Member
-report_events asked recording report = event_members.events_member recording.times report.talk (events.events_of asked report)
+abbrev pub report_events : asked.AskedValue → recording.RecordingFactsValue → full_report.ReportValue → json_text.Member
+report_events asked facts report = event_members.events_member facts.times report.talk (events.events_of asked report)
 
 -- the ones that stand last, with this one of events
 abbrev pub last_members : Bool → ℕ → json_text.Member → List (List ℕ) → List json_text.Member
 last_members has_other wrong events notes = wrong_way_members has_other wrong ++ events ∷ notes_members notes
 
 -- those of this report
-abbrev pub report_ends : asked.AskedValue → recording.RecordingValue → full_report.ReportValue → List (List ℕ) → List json_text.Member
-report_ends asked recording report notes = last_members (is_some report.arrived) report.order.wrong (report_events asked recording report) notes
+abbrev pub report_ends : asked.AskedValue → recording.RecordingFactsValue → full_report.ReportValue → List (List ℕ) → List json_text.Member
+report_ends asked facts report notes = last_members (is_some report.arrived) report.order.wrong (report_events asked facts report) notes
 
 -- by what the objects of its rows are told
-abbrev pub check_telling : asked.AskedValue → recording.RecordingValue → full_report.ReportValue → json_text.TellingValue
-check_telling asked recording report =
-    record { scope = note_facts.scope_of asked recording report; talk = report.talk; lost = full_report.lost_of report; times = recording.times; has_other = is_some report.arrived }
+abbrev pub check_telling : asked.AskedValue → recording.RecordingFactsValue → full_report.ReportValue → json_text.TellingValue
+check_telling asked facts report =
+    record { scope = note_facts.scope_of asked facts report; talk = report.talk; lost = full_report.lost_of report; times = facts.times; has_other = is_some report.arrived }
 
 -- all members: between them those of `audit --json`, with the span of each row and what to do, and who does not talk
-abbrev pub check_members : asked.AskedValue → recording.RecordingValue → full_report.ReportValue → List json_text.Member
-check_members asked recording report =
-    status_members report.ending (report_ends_spec.report_causes asked recording report)
-    ++ (json_text.rows_members (Some (check_telling asked recording report)) (full_report.rows_of report) report.explained.counts recording
-    ++ (talk_members.talk_members recording.times report ++ report_ends asked recording report (report_ends_spec.report_notes asked recording report)))
+abbrev pub check_members : asked.AskedValue → recording.RecordingFactsValue → full_report.ReportValue → List json_text.Member
+check_members asked facts report =
+    status_members report.ending (report_ends_spec.report_causes asked facts report)
+    ++ (json_text.rows_members (Some (check_telling asked facts report)) (full_report.rows_of report) report.explained.counts facts
+    ++ (talk_members.talk_members facts.times report ++ report_ends asked facts report (report_ends_spec.report_notes asked facts report)))

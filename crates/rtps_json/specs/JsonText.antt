@@ -417,13 +417,13 @@ abbrev pub pairs_member : Option TellingValue → times_spec.TimesValue → List
 pairs_member telling times rows = (codes "pairs", array_of (map (row_json telling times) rows))
 
 -- what is told of these rows and counts, and of the frames of this recording
-abbrev pub rows_members : Option TellingValue → List explanation.ExplanationValue → Counts → recording.RecordingValue → List Member
-rows_members telling rows counts recording =
-    pairs_member telling (times_told telling recording.times) rows ∷ (counts_members counts ++ (ignored_members recording.ignored ++ reasons_members recording.reasons))
+abbrev pub rows_members : Option TellingValue → List explanation.ExplanationValue → Counts → recording.RecordingFactsValue → List Member
+rows_members telling rows counts facts =
+    pairs_member telling (times_told telling facts.times) rows ∷ (counts_members counts ++ (ignored_members facts.ignored ++ reasons_members facts.reasons))
 
 -- the whole report, as an object of `audit --json`
-abbrev pub report_json : List explanation.ExplanationValue → Counts → recording.RecordingValue → Json
-report_json rows counts recording = object_of (rows_members None rows counts recording)
+abbrev pub report_json : List explanation.ExplanationValue → Counts → recording.RecordingFactsValue → Json
+report_json rows counts facts = object_of (rows_members None rows counts facts)
 
 -- the tokens of a member: its name, and those of its value
 abbrev pub tokens_of_member : Member → List Token

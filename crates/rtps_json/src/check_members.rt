@@ -5,6 +5,7 @@ ghost use Rattle.std.specs.String.{string_bytes};
 ghost use Rattle.rtps_report.specs.Asked.{asked_value};
 ghost use Rattle.rtps_report.specs.Events.{event_value};
 ghost use Rattle.rtps_report.specs.FullReport.{report_value};
+ghost use Rattle.rtps_report.specs.Recording.{facts_value};
 ghost use Rattle.rtps_report.specs.Talk.{talk_value};
 ghost use Rattle.rtps_json.specs.CheckMembers.{check_members, check_telling, report_ends, status_text};
 ghost use Rattle.rtps_json.specs.CheckMembers as of_check;
@@ -44,13 +45,13 @@ fn status_members(ending: &Ending, causes: Vec<String>, alloc: Global) -> Made<M
 
 /// By what the objects of a report's rows are told.
 fn telling_of<'t, 'a>(report: &'t FullReport<'a>) -> Telling<'t, 'a>
-    ensures { telling_value result ≡ check_telling (asked_value report.now.asked.now) report.now.recording.now (report_value report.now) }
+    ensures { telling_value result ≡ check_telling (asked_value report.now.asked.now) (facts_value report.now.facts) (report_value report.now) }
 {
     Telling {
         scope: scope_of(report),
         talk: &report.talk,
         lost: &report.explained.lost,
-        times: report.recording.times(),
+        times: report.facts.times,
         has_other: has_other(report),
     }
 }
@@ -92,11 +93,11 @@ fn push_ends(
     notes: Vec<String>,
 ) -> Result<(), AllocError>
     ensures tokens { OnOk result (writer.new.tokens ≡ writer.old.tokens
-        ++ tokens_of (talk_members report.now.recording.now.times (report_value report.now) ++ report_ends (asked_value report.now.asked.now) report.now.recording.now (report_value report.now) (map string_bytes notes.items))) }
+        ++ tokens_of (talk_members report.now.facts.times.now (report_value report.now) ++ report_ends (asked_value report.now.asked.now) (facts_value report.now.facts) (report_value report.now) (map string_bytes notes.items))) }
     ensures before { writer.new.before ≡ writer.old.before }
 {
     let clock = Clock {
-        times: report.recording.times(),
+        times: report.facts.times,
         alloc,
         framed: true,
     };
@@ -114,7 +115,7 @@ pub fn push_check_members(
     report: &FullReport<'_>,
 ) -> Result<(), AllocError>
     ensures tokens { OnOk result (writer.new.tokens ≡ writer.old.tokens
-        ++ tokens_of (check_members (asked_value report.now.asked.now) report.now.recording.now (report_value report.now))) }
+        ++ tokens_of (check_members (asked_value report.now.asked.now) (facts_value report.now.facts) (report_value report.now))) }
     ensures before { writer.new.before ≡ writer.old.before }
 {
     let mut text = String::new(alloc);
@@ -124,7 +125,7 @@ pub fn push_check_members(
     push_members(writer, &mut text, &status)?;
     let rows = ToldRows {
         explained: &report.explained,
-        recording: report.recording,
+        facts: report.facts,
         telling: Some(telling_of(report)),
     };
     push_report_members(alloc, writer, &rows)?;

@@ -8,6 +8,7 @@ ghost use Rattle.json.specs.Json.{Json, boolean, max_depth, number as number_of,
 ghost use Rattle.json.specs.Tree.{depth, json_tokens};
 ghost use Rattle.rtps_evidence.specs.Explanation.{evidence_value, explanation_value};
 ghost use Rattle.rtps_evidence.specs.Grounds.{grounds_value};
+ghost use Rattle.rtps_report.specs.Recording.{facts_value};
 ghost use Rattle.rtps_report.specs.RowFacts as row_facts;
 ghost use Rattle.rtps_json.specs.JsonText.{clock_times, IsJsonLine, advice_json, arrived_json, lacking_json, pairs_member, report_json, row_json, rows_members, sentence_json, telling_value, tokens_of, tokens_of_member};
 ghost use Rattle.rtps_json.specs.JsonText as json_text;
@@ -27,7 +28,7 @@ use rtps_evidence::{
     Evidence, Explained, Explanation, Grounds, InSpan, LostNumbers, Outcomes, Times, Wait,
 };
 use rtps_lines::{AdviceText, silence_lines};
-use rtps_report::{Reasons, Recording, Scope, Talk, advice_of, is_clean, row_from};
+use rtps_report::{Reasons, RecordingFacts, Scope, Talk, advice_of, is_clean, row_from};
 use std::alloc::{AllocError, Global};
 
 /// The line of the value that was written, and nothing before it.
@@ -66,7 +67,7 @@ struct RowForm<'t, 'a> {
 #[derive(Clone, Copy)]
 pub(crate) struct ToldRows<'t, 'a> {
     pub(crate) explained: &'t Explained<'a>,
-    pub(crate) recording: &'t Recording,
+    pub(crate) facts: RecordingFacts<'t>,
     pub(crate) telling: Option<Telling<'t, 'a>>,
 }
 
@@ -75,16 +76,16 @@ pub fn push_report<'r>(
     alloc: Global,
     writer: &mut Writer,
     explained: &'r Explained<'_>,
-    recording: &'r Recording,
+    facts: RecordingFacts<'r>,
 ) -> Result<(), AllocError>
     ensures tokens { OnOk result (writer.new.tokens
-        ≡ writer.old.tokens ++ json_tokens (report_json (map explanation_value explained.now.rows.items) explained.now.counts recording.now)) }
+        ≡ writer.old.tokens ++ json_tokens (report_json (map explanation_value explained.now.rows.items) explained.now.counts (facts_value facts.entry))) }
     ensures before { writer.new.before ≡ writer.old.before }
 {
     writer.begin_object()?;
     let told = ToldRows {
         explained,
-        recording,
+        facts,
         telling: None,
     };
     push_report_members(alloc, writer, &told)?;
@@ -98,13 +99,13 @@ pub(crate) fn push_report_members(
     told: &ToldRows<'_, '_>,
 ) -> Result<(), AllocError>
     ensures tokens { OnOk result (writer.new.tokens
-        ≡ writer.old.tokens ++ tokens_of (rows_members (option_map telling_value told.now.telling) (map explanation_value told.now.explained.now.rows.items) told.now.explained.now.counts told.now.recording.now)) }
+        ≡ writer.old.tokens ++ tokens_of (rows_members (option_map telling_value told.now.telling) (map explanation_value told.now.explained.now.rows.items) told.now.explained.now.counts (facts_value told.now.facts))) }
     ensures before { writer.new.before ≡ writer.old.before }
 {
-    let recording = told.recording;
+    let facts = told.facts;
     let mut text = String::new(alloc);
     let clock = Clock {
-        times: recording.times(),
+        times: facts.times,
         alloc,
         framed: told.telling.is_some(),
     };
@@ -113,7 +114,7 @@ pub(crate) fn push_report_members(
         clock,
     };
     push_pairs(writer, &mut text, &told.explained.rows, form)?;
-    let members = counts_told(told.explained.counts, recording, alloc)?;
+    let members = counts_told(told.explained.counts, facts, alloc)?;
     push_members(writer, &mut text, &members)
 }
 
@@ -478,11 +479,11 @@ fn reasons_members(reasons: Option<Reasons>, alloc: Global) -> Made<Members>
 }
 
 /// What was counted, and how many frames gave no datagram, for which reasons.
-fn counts_told(counts: Counts, recording: &Recording, alloc: Global) -> Made<Members>
+fn counts_told(counts: Counts, facts: RecordingFacts<'_>, alloc: Global) -> Made<Members>
     ensures { IfOk result (λ members. members_json members.items
-        ≡ json_text.counts_members counts ++ (json_text.ignored_members recording.now.ignored ++ json_text.reasons_members recording.now.reasons)) }
+        ≡ json_text.counts_members counts ++ (json_text.ignored_members facts.entry.ignored ++ json_text.reasons_members facts.entry.reasons)) }
 {
-    let reasons = reasons_members(recording.reasons(), alloc)?;
-    let members = joined(ignored_members(recording.ignored(), alloc)?, reasons)?;
+    let reasons = reasons_members(facts.reasons, alloc)?;
+    let members = joined(ignored_members(facts.ignored, alloc)?, reasons)?;
     joined(counts_members(counts, alloc)?, members)
 }

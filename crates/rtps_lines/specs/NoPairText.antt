@@ -93,5 +93,5 @@ no_pair_text talk cause sides = cause_sentence cause
 pub record IsRemedyOf (asked : asked.AskedValue) (recording : recording.RecordingValue) (report : full_report.ReportValue) (text : List ℕ) : Type 0 where
   pub cause : NoPair
   pub one_sides : List one_sides.OneSidedValue
-  pub is_cause : report_no_pair.IsNoPairOf asked recording report cause one_sides
+  pub is_cause : report_no_pair.IsNoPairOf asked recording report.talk cause one_sides
   pub is_text : text ≡ no_pair_text report.talk cause one_sides

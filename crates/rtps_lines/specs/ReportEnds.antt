@@ -13,13 +13,13 @@ use Rattle.rtps_lines.specs.Causes as causes
 use Rattle.rtps_lines.specs.Notes as notes
 
 -- why the run of this report does not end clean
-abbrev pub report_causes : asked.AskedValue → recording.RecordingValue → full_report.ReportValue → List (List ℕ)
-report_causes asked recording report = causes.causes_of asked.certain (totals.totals_of (note_facts.scope_of asked recording report) (full_report.rows_of report)) (causes.findings_in report.ending)
+abbrev pub report_causes : asked.AskedValue → recording.RecordingFactsValue → full_report.ReportValue → List (List ℕ)
+report_causes asked facts report = causes.causes_of asked.certain (totals.totals_of (note_facts.scope_of asked facts report) (full_report.rows_of report)) (causes.findings_in report.ending)
 
 -- the last line of what is told of it
-abbrev pub report_last : asked.AskedValue → recording.RecordingValue → full_report.ReportValue → List ℕ
-report_last asked recording report =
-    causes.last_line (totals.totals_of (note_facts.scope_of asked recording report) (full_report.rows_of report)) (best_efforts.numbers_told report.talk.best_effort_total) report.ending (report_causes asked recording report)
+abbrev pub report_last : asked.AskedValue → recording.RecordingFactsValue → full_report.ReportValue → List ℕ
+report_last asked facts report =
+    causes.last_line (totals.totals_of (note_facts.scope_of asked facts report) (full_report.rows_of report)) (best_efforts.numbers_told report.talk.best_effort_total) report.ending (report_causes asked facts report)
 
 -- of what the notes of a report tell, where topics are not named
 abbrev pub noted_of : full_report.ReportValue → notes.NotedValue
@@ -38,5 +38,5 @@ noted_of report =
     }
 
 -- what weakens it
-abbrev pub report_notes : asked.AskedValue → recording.RecordingValue → full_report.ReportValue → List (List ℕ)
-report_notes asked recording report = notes.notes (codes " -> ") (note_facts.note_facts asked recording report) (noted_of report)
+abbrev pub report_notes : asked.AskedValue → recording.RecordingFactsValue → full_report.ReportValue → List (List ℕ)
+report_notes asked facts report = notes.notes (codes " -> ") (note_facts.note_facts asked facts report) (noted_of report)

@@ -1,8 +1,6 @@
 ghost use Rattle.std.specs.Prelude.{◌≡◌, ◌++◌, IfOk, OnOk, map, take};
 ghost use Rattle.std.specs.String.{string_bytes};
 ghost use Rattle.rtps_parts.specs.Parts as parts;
-ghost use Rattle.rtps_report.specs.Asked as asked;
-ghost use Rattle.rtps_report.specs.FullReport as full_report;
 ghost use Rattle.rtps_report.specs.OneSides as one_sides;
 ghost use Rattle.rtps_report.specs.Talk as talk_spec;
 ghost use Rattle.rtps_lines.specs.NoPairText as no_pair_text_spec;
@@ -11,7 +9,7 @@ use crate::event_text::called;
 use crate::sentences::no_pair as said;
 use rtps_discovery::Side;
 use rtps_parts::{Part, Words, render};
-use rtps_report::{FullReport, InDomain, NoPair, OneSided, Talk, WhyNoPair, no_pair_of};
+use rtps_report::{InDomain, NoPair, OneSided, Talk, WhyNoPair};
 use std::alloc::{AllocError, Global};
 
 /// So many topics are named that have one side alone.
@@ -170,15 +168,15 @@ fn push_no_pair(text: &mut String, talk: &Talk<'_>, why: &WhyNoPair<'_>) -> Resu
     }
 }
 
-/// Why there is no pair to judge in a report where there is none, and what to do.
-pub fn no_pair_remedy(alloc: Global, report: &FullReport<'_>) -> Result<String, AllocError>
-    requires { full_report.IsIndexed report.now }
-    ensures { IfOk result (λ text. no_pair_text_spec.IsRemedyOf (asked.asked_value report.now.asked.now) report.now.recording.now (full_report.report_value report.now) (string_bytes text)) }
+/// Why there is no pair to judge, and what to do.
+pub fn no_pair_remedy(
+    alloc: Global,
+    talk: &Talk<'_>,
+    why: &WhyNoPair<'_>,
+) -> Result<String, AllocError>
+    ensures { IfOk result (λ text. string_bytes text ≡ no_pair_text_spec.no_pair_text (talk_spec.talk_value talk.now) why.now.cause (map one_sides.one_sided_value why.now.one_sides.items)) }
 {
-    let Ok(why) = no_pair_of(alloc, report) else {
-        return Err(AllocError);
-    };
     let mut text = String::new(alloc);
-    push_no_pair(&mut text, &report.talk, &why)?;
+    push_no_pair(&mut text, talk, why)?;
     Ok(text)
 }

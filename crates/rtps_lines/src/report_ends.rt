@@ -4,6 +4,7 @@ ghost use Rattle.std.specs.Prelude.{◌≡◌, ◌++◌, IfOk, OnOk, map};
 ghost use Rattle.std.specs.String.{string_bytes};
 ghost use Rattle.rtps_report.specs.Asked as asked;
 ghost use Rattle.rtps_report.specs.FullReport as full_report;
+ghost use Rattle.rtps_report.specs.Recording as recording_spec;
 ghost use Rattle.rtps_lines.specs.ReportEnds as lines;
 
 use crate::causes::{Judged, causes_of, push_last};
@@ -13,7 +14,7 @@ use std::alloc::{AllocError, Global};
 
 /// Why the run of a report does not end clean.
 pub fn report_causes(alloc: Global, report: &FullReport<'_>) -> Result<Vec<String>, AllocError>
-    ensures { IfOk result (λ causes. map string_bytes causes.items ≡ lines.report_causes (asked.asked_value report.now.asked.now) report.now.recording.now (full_report.report_value report.now)) }
+    ensures { IfOk result (λ causes. map string_bytes causes.items ≡ lines.report_causes (asked.asked_value report.now.asked.now) (recording_spec.facts_value report.now.facts) (full_report.report_value report.now)) }
 {
     let totals = totals_of(&report.explained.rows, scope_of(report));
     let judged = Judged {
@@ -31,7 +32,7 @@ pub fn push_report_last(
     report: &FullReport<'_>,
 ) -> Result<(), AllocError>
     ensures { OnOk result (string_bytes text.new
-        ≡ string_bytes text.old ++ lines.report_last (asked.asked_value report.now.asked.now) report.now.recording.now (full_report.report_value report.now)) }
+        ≡ string_bytes text.old ++ lines.report_last (asked.asked_value report.now.asked.now) (recording_spec.facts_value report.now.facts) (full_report.report_value report.now)) }
 {
     let totals = totals_of(&report.explained.rows, scope_of(report));
     let judged = Judged {
@@ -45,7 +46,7 @@ pub fn push_report_last(
 
 /// What weakens a report, in one line each, without the names of topics.
 pub fn report_notes(alloc: Global, report: &FullReport<'_>) -> Result<Vec<String>, AllocError>
-    ensures { IfOk result (λ notes. map string_bytes notes.items ≡ lines.report_notes (asked.asked_value report.now.asked.now) report.now.recording.now (full_report.report_value report.now)) }
+    ensures { IfOk result (λ notes. map string_bytes notes.items ≡ lines.report_notes (asked.asked_value report.now.asked.now) (recording_spec.facts_value report.now.facts) (full_report.report_value report.now)) }
 {
     let matched_late = late_rows(alloc, &report.talk, &report.explained.rows)?;
     let rows = NotedRows {

@@ -21,6 +21,7 @@ use Rattle.rtps_json.specs.JsonText as json_text
 use Rattle.rtps_lines.specs.Lines as lines
 use Rattle.rtps_report.specs.FullReport as full_report
 use Rattle.rtps_report.specs.Recording as recording
+use Rattle.rtps_report.specs.Recording.{facts_in}
 use Rattle.rtps_json.proofs.Offered.{check_depth, joined, timed_within}
 use Rattle.rtps_page.specs.ChartEntries as chart_entries
 use Rattle.rtps_page.specs.ChartRoom as chart_room
@@ -194,5 +195,5 @@ page_within origin asked recording report directory =
     let rows = full_report.rows_of report in
     let own : members_depth (json_text.members_of (own_members origin asked recording rows directory pairs)) ≤ 6 =
     omega (arith, recording_within origin recording.times, joining_within recording.times rows, options_within asked, endpoints_within directory, chart_part recording.times (acts_sent recording) (chart_room.pairs_of rows) pairs) in
-    let all = joined 7 (check_members asked recording report) (own_members origin asked recording rows directory pairs) (check_depth asked recording report) (omega (arith, own)) in
+    let all = joined 7 (check_members asked (facts_in recording) report) (own_members origin asked recording rows directory pairs) (check_depth asked (facts_in recording) report) (omega (arith, own)) in
     omega (arith, all)

@@ -14,4 +14,4 @@ pub use Rattle.rtps_page.specs.ChartEntries.{answer_json, answers_in, entries_at
 pub use Rattle.rtps_page.specs.ChartRoom.{writers_behind}
 pub use Rattle.rtps_page.specs.Joining.{joined_json, joined_member, joining_json}
 pub use Rattle.rtps_page.specs.Origin.{moment_json, origin_value, recording_member, recording_members}
-pub use Rattle.rtps_page.specs.Page.{acts_sent, answers_json, chart_members, directory_member, endpoint_json, expect_json, guid_json, intake_in, json_in, members_in, option_members, options_member, own_members, times_member, writer_json}
+pub use Rattle.rtps_page.specs.Page.{acts_sent, answers_json, chart_members, directory_member, endpoint_json, expect_json, guid_json, json_in, members_in, option_members, options_member, own_members, times_member, writer_json}

@@ -23,6 +23,7 @@ use Rattle.rtps_evidence.specs.Times as times
 use Rattle.rtps_report.specs.Asked as asked
 use Rattle.rtps_report.specs.FullReport as full_report
 use Rattle.rtps_report.specs.Recording as recording
+use Rattle.rtps_report.specs.Recording.{facts_in}
 use Rattle.rtps_json.specs.CheckMembers as check_members
 use Rattle.rtps_json.specs.JsonText as json_text
 use Rattle.rtps_lines.specs.QosNames as qos_names
@@ -107,23 +108,18 @@ pairs_with_charts asked recording report = chart_room.charted_pairs asked.tail (
 -- all of it
 abbrev pub page_json : origin_spec.OriginValue → asked.AskedValue → recording.RecordingValue → full_report.ReportValue → directory_spec.DirectoryValue → Json
 page_json origin asked recording report directory =
-    json_text.object_of (check_members.check_members asked recording report ++ own_members origin asked recording (full_report.rows_of report) directory (pairs_with_charts asked recording report))
+    json_text.object_of (check_members.check_members asked (facts_in recording) report ++ own_members origin asked recording (full_report.rows_of report) directory (pairs_with_charts asked recording report))
 
--- what the report of a page is by
-abbrev pub intake_in : Shown → intake.Intake
-intake_in shown = recorded_samples.intake_as Fragments.Read shown.report.now.recording.now.datagrams
-
--- the members of what the code makes a page of, with charts of these pairs
-abbrev pub members_in : Shown → List Pair → List json_text.Member
-members_in shown pairs =
+-- the members of what the code makes a page of, which is of this recording, with charts of these pairs
+abbrev pub members_in : recording.RecordingValue → Shown → List Pair → List json_text.Member
+members_in recording shown pairs =
     let asked = asked.asked_value shown.report.now.asked.now in
-    let recording = shown.report.now.recording.now in
     let report = full_report.report_value shown.report.now in
-    check_members.check_members asked recording report ++ own_members (origin_spec.origin_value shown.origin) asked recording (full_report.rows_of report) shown.directory.now pairs
+    check_members.check_members asked (facts_in recording) report ++ own_members (origin_spec.origin_value shown.origin) asked recording (full_report.rows_of report) shown.directory.now pairs
 
 -- its data
-abbrev pub json_in : Shown → Json
-json_in shown = page_json (origin_spec.origin_value shown.origin) (asked.asked_value shown.report.now.asked.now) shown.report.now.recording.now (full_report.report_value shown.report.now) shown.directory.now
+abbrev pub json_in : recording.RecordingValue → Shown → Json
+json_in recording shown = page_json (origin_spec.origin_value shown.origin) (asked.asked_value shown.report.now.asked.now) recording (full_report.report_value shown.report.now) shown.directory.now
 
 -- this is the text of a value, in UTF-8, and its tokens are read back
 pub record IsPrinted (value : Json) (text : List ℕ) : Type 0 where

@@ -1,6 +1,7 @@
 ghost use Rattle.std.specs.Prelude.{◌≡◌, ◌++◌, IfOk, IsUtf8, string_bytes};
 ghost use Rattle.rtps_report.specs.Asked as asked;
 ghost use Rattle.rtps_report.specs.FullReport as full_report;
+ghost use Rattle.rtps_report.specs.Recording as recording_spec;
 ghost use Rattle.rtps_page.specs.Origin as origin_spec;
 ghost use Rattle.rtps_page.specs.Page as page_spec;
 ghost use Rattle.rtps_page.specs.SafeText as safe_text;
@@ -14,7 +15,7 @@ use rtps_ids::Memory;
 use rtps_report::FullReport;
 use std::alloc::{AllocError, Global};
 
-/// What `page` writes of a report, which is of the recording of this origin; `plain` is what `check` prints of it. `Memory` is answered where the page, or what is kept for it,
+/// What `page` writes of a report, which is of any recording that it is made of, and of this origin; `plain` is what `check` prints of it. `Memory` is answered where the page, or what is kept for it,
 /// cannot grow.
 pub fn page_text(
     alloc: Global,
@@ -22,8 +23,8 @@ pub fn page_text(
     plain: &str,
     origin: Origin<'_>,
 ) -> Result<String, Memory>
-    requires { full_report.IsIndexed report.now }
-    ensures { IfOk result (λ page. page_spec.IsPageOf (origin_spec.origin_value origin.entry) (asked.asked_value report.now.asked.now) report.now.recording.now (full_report.report_value report.now) plain.now (string_bytes page)) }
+    ensures { (recording : recording_spec.RecordingValue) → full_report.IsMadeOf recording report.now
+        → IfOk result (λ page. page_spec.IsPageOf (origin_spec.origin_value origin.entry) (asked.asked_value report.now.asked.now) recording (full_report.report_value report.now) plain.now (string_bytes page)) }
 {
     let directory = report.index.directory();
     let data = data_of(&Shown {

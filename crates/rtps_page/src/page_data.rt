@@ -1,10 +1,12 @@
-ghost use Rattle.std.specs.Prelude.{◌≡◌, ◌++◌, IfOk, OnOk, map, string_bytes};
+ghost use Rattle.std.specs.Prelude.{◌≡◌, ◌++◌, IfOk, IsUtf8, OnOk, map, string_bytes};
 ghost use Rattle.json.specs.Json.{string};
 ghost use Rattle.rtps_audit.specs.Index as index_spec;
 ghost use Rattle.rtps_audit.specs.Intake as intake;
 ghost use Rattle.rtps_audit.specs.Placed as placed;
 ghost use Rattle.rtps_evidence.specs.Explanation as explanation;
 ghost use Rattle.rtps_report.specs.Asked as asked_spec;
+ghost use Rattle.rtps_report.specs.FullReport as full_report;
+ghost use Rattle.rtps_report.specs.Recording as recording_spec;
 ghost use Rattle.rtps_json.specs.JsonText as json_text;
 ghost use Rattle.rtps_json.specs.Values as json_values;
 ghost use Rattle.rtps_page.specs.ChartRoom as chart_room;
@@ -94,16 +96,16 @@ fn push_members(
     all: &[Pair],
     pairs: &[Pair],
 ) -> Result<(), Memory>
-    requires index { index_spec.IsIndexBy (page_spec.intake_in shown.now) shown.now.report.now.index }
-    requires pairs { all.now ≡ chart_room.pairs_of (map explanation.explanation_value shown.now.report.now.explained.rows.items) }
-    ensures tokens { OnOk result (writer.new.tokens ≡ writer.old.tokens ++ json_text.tokens_of (page_spec.members_in shown.now pairs.now)) }
+    requires { all.now ≡ chart_room.pairs_of (map explanation.explanation_value shown.now.report.now.explained.rows.items) }
+    ensures tokens { (recording : recording_spec.RecordingValue) → full_report.IsMadeOf recording shown.now.report.now
+        → OnOk result (writer.new.tokens ≡ writer.old.tokens ++ json_text.tokens_of (page_spec.members_in recording shown.now pairs.now)) }
     ensures before { writer.new.before ≡ writer.old.before }
 {
     let report = shown.report;
     let alloc = shown.alloc;
     let mut text = String::new(alloc);
     let clock = Clock {
-        times: report.recording.times(),
+        times: report.facts.times,
         alloc,
         framed: true,
     };
@@ -122,8 +124,9 @@ fn push_members(
 }
 
 pub(crate) fn data_of(shown: &Shown<'_, '_>) -> Result<Vec<u8>, Memory>
-    requires { index_spec.IsIndexBy (page_spec.intake_in shown.now) shown.now.report.now.index }
-    ensures { IfOk result (λ text. page_spec.IsPrinted (page_spec.json_in shown.now) text.items) }
+    ensures utf8 { IfOk result (λ text. IsUtf8 text.items) }
+    ensures printed { (recording : recording_spec.RecordingValue) → full_report.IsMadeOf recording shown.now.report.now
+        → IfOk result (λ text. page_spec.IsPrinted (page_spec.json_in recording shown.now) text.items) }
 {
     let report = shown.report;
     let alloc = shown.alloc;

@@ -34,5 +34,5 @@ one_sides_once unique asked recording one other sides others same is also =
 
 pub one_no_pair : HasOneMap → no_pair.HasOneNoPair
 one_no_pair unique asked recording one other cause last sides others same is also =
-    let told : sides ≡ others = one_sides_once unique asked recording.datagrams one.talk other.talk sides others same is.sides also.sides in
+    let told : sides ≡ others = one_sides_once unique asked recording.datagrams one other sides others same is.sides also.sides in
     (is.is_cause ∙ ap₂ (λ (talk : talk.TalkValue) (those : List one_sides.OneSidedValue). no_pair.no_pair_by recording.datagrams (early.early_of recording.datagrams) talk (not (length those == 0))) same told ∙ sym also.is_cause, told)

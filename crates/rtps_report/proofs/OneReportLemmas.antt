@@ -46,7 +46,7 @@ pub one_full_report : explanation.PairsHaveOneExplanation → HasOneMap → laws
 one_full_report law unique asked theirs recording one other is also =
     let talk = one_talk unique asked (reader_side.other_by theirs) recording one.talk other.talk is.talks also.talks in
     let lists = one_list law unique asked (recorded_samples.intake_as Fragments.Read recording.datagrams) (reader_side.beside_of theirs recording) (talk_spec.traffic_of recording.datagrams) one.explained other.explained is.rows also.rows in
-    let ends : TalkFacts → Order → List explanation.ExplanationValue → Counts → Ending = λ facts order those counted. findings.ending_as asked (full_report.facts_with facts order asked those counted recording) in
+    let ends : TalkFacts → Order → List explanation.ExplanationValue → Counts → Ending = λ facts order those counted. findings.ending_as asked (full_report.facts_with facts order asked those counted recording.reasons) in
     let facts : full_report.talk_facts one.talk ≡ full_report.talk_facts other.talk = ap full_report.talk_facts (same_talk one.talk other.talk talk) in
     let order : one.order ≡ other.order = is.order ∙ ap₂ (order.order_by theirs recording) lists.0.0 talk.ways ∙ sym also.order in
     record {

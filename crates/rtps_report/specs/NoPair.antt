@@ -1,11 +1,11 @@
 -- Why there is no pair to judge. own: it is asked before anything else why a topic is not there, and the causes hide one another: what is said of the recording comes first,
 -- then of participants, then of endpoints. The first cause that fits is told.
-use Rattle.std.specs.Prelude.{ℕ, ◌≡◌, Bool, if◌then◌else◌, ◌==◌, is_some, length, List, [], ◌∷◌, Option, Some, None, nat_eq, nat_lt, not}
+use Rattle.std.specs.Prelude.{ℕ, ◌≡◌, Bool, if◌then◌else◌, ◌==◌, is_some, length, List, [], ◌∷◌, Option, Some, None, map, nat_eq, nat_lt, not}
 use Rattle.std.specs.List.{filter_map, find, list_any}
 use Rattle.std.specs.Option.{option_map}
+use Rattle.rtps_evidence.specs.declared.explanation.Explanation.{Explanation}
 use Rattle.rtps_report.specs.Asked as asked
 use Rattle.rtps_report.specs.Early as early
-use Rattle.rtps_report.specs.FullReport as full_report
 use Rattle.rtps_report.specs.OneSides as one_sides_spec
 use Rattle.rtps_report.specs.Participants as participants
 use Rattle.rtps_report.specs.Recording as recording
@@ -13,6 +13,7 @@ use Rattle.rtps_report.specs.Stays as stays
 use Rattle.rtps_report.specs.Talk as talk
 use Rattle.rtps_report.specs.declared.no_pair.InDomain.{InDomain}
 use Rattle.rtps_report.specs.declared.no_pair.NoPair.{NoPair}
+use Rattle.rtps_report.specs.declared.no_pair.WhyNoPair.{WhyNoPair}
 use Rattle.rtps_report.specs.declared.participant.Participant.{Participant}
 
 -- some datagram has a header of RTPS
@@ -71,13 +72,20 @@ no_pair_by recording early talk one_side =
     else if nat_lt 0 early then NoPair.Early early
     else by_participants talk one_side
 
--- why there is no pair in a report, and which topics have one side alone
-pub record IsNoPairOf (asked : asked.AskedValue) (recording : recording.RecordingValue) (report : full_report.ReportValue) (cause : NoPair) (one_sides : List one_sides_spec.OneSidedValue) : Type 0 where
-  pub sides : one_sides_spec.AreOneSidesIn asked recording.datagrams report.talk one_sides
-  pub is_cause : cause ≡ no_pair_by recording.datagrams (early.early_of recording.datagrams) report.talk (not (length one_sides == 0))
+-- why there is no pair in a recording of which this is told of who does not talk, and which topics have one side alone
+pub record IsNoPairOf (asked : asked.AskedValue) (recording : recording.RecordingValue) (talk : talk.TalkValue) (cause : NoPair) (one_sides : List one_sides_spec.OneSidedValue) : Type 0 where
+  pub sides : one_sides_spec.AreOneSidesIn asked recording.datagrams talk one_sides
+  pub is_cause : cause ≡ no_pair_by recording.datagrams (early.early_of recording.datagrams) talk (not (length one_sides == 0))
+
+-- the code has why there is none where there are no rows, and nothing where there are some
+abbrev pub IsNoPairBy : List Explanation → asked.AskedValue → recording.RecordingValue → talk.TalkValue → Option WhyNoPair → Type 0
+IsNoPairBy [] asked recording talk None = ⊥
+IsNoPairBy [] asked recording talk (Some why) = IsNoPairOf asked recording talk why.cause (map one_sides_spec.one_sided_value why.one_sides.items)
+IsNoPairBy (row ∷ rows) asked recording talk None = Unit {0}
+IsNoPairBy (row ∷ rows) asked recording talk (Some why) = ⊥
 
 -- of what is told of a recording there is one such cause, and one list of these topics
 abbrev pub HasOneNoPair : Type 0
 HasOneNoPair =
-    (asked : asked.AskedValue) (recording : recording.RecordingValue) (one other : full_report.ReportValue) (cause last : NoPair) (sides others : List one_sides_spec.OneSidedValue) → one.talk ≡ other.talk
+    (asked : asked.AskedValue) (recording : recording.RecordingValue) (one other : talk.TalkValue) (cause last : NoPair) (sides others : List one_sides_spec.OneSidedValue) → one ≡ other
     → IsNoPairOf asked recording one cause sides → IsNoPairOf asked recording other last others → (cause ≡ last) × (sides ≡ others)

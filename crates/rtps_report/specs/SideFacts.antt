@@ -22,7 +22,7 @@ abbrev pub numbers_absent : List explanation.ExplanationValue → ℕ
 numbers_absent rows = sum_by (λ row. row_facts.absent_in row.evidence.in_span) rows
 
 -- what is told of these rows, and of the recording against which they are held, where the two were given in this order
-abbrev pub facts_beside : List explanation.ExplanationValue → Order → recording.RecordingValue → SideFacts
+abbrev pub facts_beside : List explanation.ExplanationValue → Order → recording.RecordingFactsValue → SideFacts
 facts_beside rows order other =
     record {
       alone = rows_alone rows;
@@ -35,7 +35,7 @@ facts_beside rows order other =
     }
 
 -- the same where there is another recording
-abbrev pub facts_if : List explanation.ExplanationValue → Order → Option recording.RecordingValue → Option SideFacts
+abbrev pub facts_if : List explanation.ExplanationValue → Order → Option recording.RecordingFactsValue → Option SideFacts
 facts_if rows order None = None
 facts_if rows order (Some other) = Some (facts_beside rows order other)
 

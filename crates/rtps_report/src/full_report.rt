@@ -1,4 +1,5 @@
 ghost use Rattle.std.specs.Prelude.{◌≡◌, IfOk, Option};
+ghost use Rattle.std.specs.Option.{option_map};
 ghost use Rattle.rtps_audit.specs.Index as index_spec;
 ghost use Rattle.rtps_audit.specs.Intake as intake;
 ghost use Rattle.rtps_evidence.specs.OtherSide as other_side;
@@ -7,23 +8,26 @@ ghost use Rattle.rtps_fragments.specs.declared.fragments.Fragments.TheVariants.{
 ghost use Rattle.rtps_policies.specs.Silence as silence;
 ghost use Rattle.rtps_report.specs.Asked as asked_spec;
 ghost use Rattle.rtps_report.specs.FullReport as full_report;
+ghost use Rattle.rtps_report.specs.NoPair as no_pair_spec;
 ghost use Rattle.rtps_report.specs.ReaderSide as reader_side;
+ghost use Rattle.rtps_report.specs.Recording as recording_spec;
 ghost use Rattle.rtps_report.specs.Talk as talk_spec;
 
 use crate::acquaintance::Acquaintance;
 use crate::asked::Asked;
 use crate::findings::{Ending, TalkFacts, ending_of};
+use crate::no_pair::{WhyNoPair, no_pair_of};
 use crate::not_told::not_told_counts;
 use crate::order::{Order, order_by};
 use crate::reader_side::{beside, side_by};
-use crate::recording::{Recording, datagrams_of};
+use crate::recording::{Recording, RecordingFacts, datagrams_of};
 use crate::row_facts::facts_of;
 use crate::row_pairs::{Wanted, row_pairs};
 use crate::talk::{ReadRecording, Talk, talk_in};
 use bumpalo::Bump;
 use rtps_audit::{Index, Report, Watch};
 use rtps_discovery::laws::one_map;
-use rtps_evidence::{Explained, OtherSide, Sides, explain_pairs};
+use rtps_evidence::{Explained, Explanation, OtherSide, Sides, explain_pairs};
 use rtps_fragments::{Fragments, Indexed, Source, index_told};
 use rtps_ids::Memory;
 use std::alloc::Global;
@@ -37,19 +41,22 @@ pub struct Inquiry<'a> {
     pub arrived: Option<&'a Recording>,
 }
 
-/// The report that is asked for, with what each of its rows rests on. What is told of a recording is told of this.
+/// The report that is asked for, with what each of its rows rests on. What is told of a recording is told of this: it borrows none of the
+/// recordings that it was made of.
 #[derive(Drop)]
 pub struct FullReport<'a> {
-    pub recording: &'a Recording,
+    pub facts: RecordingFacts<'a>,
     pub asked: &'a Asked<'a>,
-    /// The other recording, against which rows are held; None where there is none.
-    pub arrived: Option<&'a Recording>,
+    /// What is told of the other recording, against which rows are held; None where there is none.
+    pub arrived: Option<RecordingFacts<'a>>,
     /// What was announced, and what writers and readers say: the rows are judged from it.
     pub index: Index<'a>,
     /// The rows that are asked for, in the order of the report, and what was counted.
     pub explained: Explained<'a>,
     /// Who does not talk.
     pub talk: Talk<'a>,
+    /// Why there is no pair, where there is no row; None where there is one.
+    pub no_pair: Option<WhyNoPair<'a>>,
     /// In which order the two recordings were given.
     pub order: Order,
     /// How a run ends that tells of it.
@@ -145,6 +152,34 @@ fn explained_of<'a, P: Watch>(
     })
 }
 
+/// Why there is no pair, where there is none of these rows.
+fn no_pair_in<'a>(
+    alloc: Global,
+    inquiry: Inquiry<'_>,
+    noted: &IndexAndTalk<'a>,
+    rows: &[Explanation<'_>],
+) -> Result<Option<WhyNoPair<'a>>, Memory>
+    requires { index_spec.IsIndexBy (recorded_samples.intake_as Read inquiry.recording.now.datagrams) noted.now.index }
+    ensures { IfOk result (no_pair_spec.IsNoPairBy rows.now (asked_spec.asked_value inquiry.entry.asked.now) inquiry.entry.recording.now (talk_spec.talk_value noted.now.talk)) }
+{
+    if rows.is_empty() {
+        let why = no_pair_of(alloc, inquiry, &noted.index, &noted.talk)?;
+        Ok(Some(why))
+    } else {
+        Ok(None)
+    }
+}
+
+/// What is told of a recording, where there is one.
+fn facts_if(recording: Option<&Recording>) -> Option<RecordingFacts<'_>>
+    ensures { option_map recording_spec.facts_value result ≡ option_map recording_spec.facts_in (reader_side.arrived_value recording.entry) }
+{
+    match recording {
+        Some(recording) => Some(recording.facts()),
+        None => None,
+    }
+}
+
 /// What is known of who does not talk.
 fn talk_facts_of(alloc: Global, talk: &Talk<'_>) -> Result<TalkFacts, Memory>
     ensures { IfOk result (λ facts. facts ≡ full_report.talk_facts (talk_spec.talk_value talk.now)) }
@@ -167,34 +202,33 @@ pub fn report_on<'a, P: Watch>(
 ) -> Result<FullReport<'a>, Memory>
     ensures { IfOk result (full_report.IsReportOf (asked_spec.asked_value inquiry.entry.asked.now) (reader_side.arrived_value inquiry.entry.arrived) inquiry.entry.recording.now) }
 {
-    let Inquiry {
-        recording,
-        asked,
-        arrived,
-    } = inquiry;
+    let (recording, asked) = (inquiry.recording, inquiry.asked);
     let theirs = Bump::new(alloc);
-    let side = side_by(alloc, arrived, &theirs)?;
+    let side = side_by(alloc, inquiry.arrived, &theirs)?;
     let other = beside(&side);
-    let IndexAndTalk { index, talk } = noted_in(alloc, inquiry, arena, other)?;
+    let noted = noted_in(alloc, inquiry, arena, other)?;
     let sides = Sides {
-        index: &index,
+        index: &noted.index,
         other,
         times: recording.times(),
         arena,
     };
-    let explained = explained_of(alloc, &sides, asked, &talk, watch)?;
-    let order = order_by(alloc, inquiry, &explained.rows, talk.ways)?;
-    let told = talk_facts_of(alloc, &talk)?;
-    let facts = facts_of(asked, &explained, recording, (told, order));
-    let ending = ending_of(asked, &facts);
+    let explained = explained_of(alloc, &sides, asked, &noted.talk, watch)?;
+    let no_pair = no_pair_in(alloc, inquiry, &noted, &explained.rows)?;
+    let order = order_by(alloc, inquiry, &explained.rows, noted.talk.ways)?;
+    let told = talk_facts_of(alloc, &noted.talk)?;
+    let IndexAndTalk { index, talk } = noted;
+    let facts = recording.facts();
+    let known = facts_of(asked, &explained, facts.reasons, (told, order));
     Ok(FullReport {
-        recording,
+        facts,
         asked,
-        arrived,
+        arrived: facts_if(inquiry.arrived),
         index,
         explained,
         talk,
+        no_pair,
         order,
-        ending,
+        ending: ending_of(asked, &known),
     })
 }

@@ -56,7 +56,7 @@ pub use findings::{Ending, Facts, FewRows, Findings, TalkFacts, ending_of};
 pub use full_report::{FullReport, Inquiry, report_on};
 pub use late_matches::LateMatch;
 pub use late_row::{LateRow, is_late_alone, late_rows};
-pub use no_pair::{InDomain, NoPair, WhyNoPair, no_pair_of};
+pub use no_pair::{InDomain, NoPair, WhyNoPair};
 pub use not_told::{NotTold, NotToldCounts, TopicEnd};
 pub use note_facts::{NoteFacts, notes_on, scope_of};
 pub use one_side::OneSided;
@@ -64,7 +64,7 @@ pub use order::Order;
 pub use participant::{Participant, are_on_one_host};
 pub use pattern::fits;
 pub use presence::Stay;
-pub use recording::{Links, Reasons, Recording, datagrams_of};
+pub use recording::{Links, Reasons, Recording, RecordingFacts, datagrams_of};
 pub use row_facts::{
     absent_of, asked_about, is_clean, is_clean_tail, is_complete, is_held, is_noted, is_tail_alone,
     left_at, number_of, outcomes_of, row_from, way_of,

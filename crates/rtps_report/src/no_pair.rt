@@ -1,20 +1,23 @@
 ghost use Rattle.std.specs.Prelude.{◌≡◌, ◌++◌, ◌∷◌, [], IfOk, OnOk, is_some, map};
 ghost use Rattle.std.specs.List.{find, list_any};
+ghost use Rattle.rtps_audit.specs.Index as index_spec;
+ghost use Rattle.rtps_fragments.specs.RecordedSamples as recorded_samples;
+ghost use Rattle.rtps_fragments.specs.declared.fragments.Fragments.TheVariants.{Read};
 ghost use Rattle.rtps_report.specs.Asked as asked;
 ghost use Rattle.rtps_report.specs.Early as early_spec;
-ghost use Rattle.rtps_report.specs.FullReport as full_report;
 ghost use Rattle.rtps_report.specs.NoPair as no_pair;
 ghost use Rattle.rtps_report.specs.OneSides as one_sides_spec;
 ghost use Rattle.rtps_report.specs.Stays as stays;
 ghost use Rattle.rtps_report.specs.Talk as talk_spec;
 
 use crate::early::early_of;
-use crate::full_report::FullReport;
+use crate::full_report::Inquiry;
 use crate::one_side::{OneSided, one_sides_of};
 use crate::participant::{Participant, are_on_one_host};
 use crate::presence::sender_of;
-use crate::recording::datagrams_of;
+use crate::recording::{Recording, datagrams_of};
 use crate::talk::Talk;
+use rtps_audit::Index;
 use rtps_ids::{Guid, Memory};
 use std::alloc::Global;
 
@@ -183,26 +186,30 @@ fn by_participants(talk: &Talk<'_>, known: &[InDomain], one_side: bool) -> NoPai
     }
 }
 
-/// Why there is no pair in a report where there is none, and the topics that have one side alone.
+/// Why there is no pair in a recording where there is none, and the topics that have one side alone.
 #[derive(Drop)]
 pub struct WhyNoPair<'a> {
     pub cause: NoPair,
     pub one_sides: Vec<OneSided<'a>>,
 }
 
-/// The cause of a report, by the topics that have one side alone.
-fn cause_in(alloc: Global, report: &FullReport<'_>, one_side: bool) -> Result<NoPair, Memory>
-    ensures { IfOk result (λ cause. cause ≡ no_pair.no_pair_by report.now.recording.now.datagrams (early_spec.early_of report.now.recording.now.datagrams) (talk_spec.talk_value report.now.talk) one_side) }
+/// The cause in a recording, where some topic has one side alone, or none has.
+fn cause_in(
+    alloc: Global,
+    recording: &Recording,
+    talk: &Talk<'_>,
+    one_side: bool,
+) -> Result<NoPair, Memory>
+    ensures { IfOk result (λ cause. cause ≡ no_pair.no_pair_by recording.now.datagrams (early_spec.early_of recording.now.datagrams) (talk_spec.talk_value talk.now) one_side) }
 {
-    let talk = &report.talk;
     if talk.best_effort_total.numbers > 0 {
         return Ok(NoPair::Counted);
     }
-    let datagrams = datagrams_of(alloc, report.recording)?;
+    let datagrams = datagrams_of(alloc, recording)?;
     if !is_rtps(&datagrams) {
         return Ok(NoPair::NoRtps);
     }
-    let early = early_of(alloc, report.recording)?;
+    let early = early_of(alloc, recording)?;
     if early > 0 {
         return Ok(NoPair::Early(early));
     }
@@ -210,12 +217,18 @@ fn cause_in(alloc: Global, report: &FullReport<'_>, one_side: bool) -> Result<No
     Ok(by_participants(talk, &known, one_side))
 }
 
-/// Why there is no pair in a report where there is none. `Memory` is answered where there is none to find out.
-pub fn no_pair_of<'a>(alloc: Global, report: &FullReport<'a>) -> Result<WhyNoPair<'a>, Memory>
-    requires { full_report.IsIndexed report.now }
-    ensures { IfOk result (λ why. no_pair.IsNoPairOf (asked.asked_value report.now.asked.now) report.now.recording.now (full_report.report_value report.now) why.cause (map one_sides_spec.one_sided_value why.one_sides.items)) }
+/// Why there is no pair in the recording of an inquiry where there is none, by its index and who does not talk. `Memory` is answered where
+/// there is none to find out.
+pub(crate) fn no_pair_of<'a>(
+    alloc: Global,
+    inquiry: Inquiry<'_>,
+    index: &Index<'a>,
+    talk: &Talk<'_>,
+) -> Result<WhyNoPair<'a>, Memory>
+    requires { index_spec.IsIndexBy (recorded_samples.intake_as Read inquiry.recording.now.datagrams) index.now }
+    ensures { IfOk result (λ why. no_pair.IsNoPairOf (asked.asked_value inquiry.entry.asked.now) inquiry.entry.recording.now (talk_spec.talk_value talk.now) why.cause (map one_sides_spec.one_sided_value why.one_sides.items)) }
 {
-    let one_sides = one_sides_of(alloc, report)?;
-    let cause = cause_in(alloc, report, !one_sides.is_empty())?;
+    let one_sides = one_sides_of(alloc, inquiry.asked, index, talk)?;
+    let cause = cause_in(alloc, inquiry.recording, talk, !one_sides.is_empty())?;
     Ok(WhyNoPair { cause, one_sides })
 }

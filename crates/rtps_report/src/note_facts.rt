@@ -3,11 +3,12 @@ ghost use Rattle.rtps_evidence.specs.Explanation as explanation;
 ghost use Rattle.rtps_report.specs.Asked as asked;
 ghost use Rattle.rtps_report.specs.FullReport as full_report;
 ghost use Rattle.rtps_report.specs.NoteFacts as note_facts;
+ghost use Rattle.rtps_report.specs.Recording as recording_spec;
 
 use crate::advice::Scope;
 use crate::full_report::FullReport;
 use crate::late_row::{count_lacking_before, count_late_alone};
-use crate::recording::{Links, Reasons, Recording, known};
+use crate::recording::{Links, Reasons, known};
 use crate::row_facts::{is_clean_tail, outcomes_of};
 use crate::totals::totals_of;
 use rtps_audit::Counts;
@@ -58,21 +59,14 @@ fn back_in(times: &Times) -> u64
     if step > MOST_BACK { step } else { 0 }
 }
 
-fn short_in(recording: &Recording) -> u64
-    ensures { result ≡ note_facts.short_in recording.now.datagrams }
-{
-    let datagrams = recording.datagrams();
-    datagrams.filter(|octets| octets.len() <= 1).count() as u64
-}
-
 /// What a row of a report is told by beside its pair.
 pub fn scope_of(report: &FullReport<'_>) -> Scope
-    ensures { result ≡ note_facts.scope_of (asked.asked_value report.now.asked.now) report.now.recording.now (full_report.report_value report.now) }
+    ensures { result ≡ note_facts.scope_of (asked.asked_value report.now.asked.now) (recording_spec.facts_value report.now.facts) (full_report.report_value report.now) }
 {
     Scope {
         from: report.asked.first_asked(),
         tail: report.asked.tail,
-        unread: is_unread(&report.explained.counts, report.recording.reasons()),
+        unread: is_unread(&report.explained.counts, report.facts.reasons),
     }
 }
 
@@ -98,16 +92,16 @@ fn clean_tail_of(tail: u64, evidence: &Evidence<'_>) -> u64
 
 /// What weakens a report.
 pub fn notes_on(report: &FullReport<'_>) -> NoteFacts
-    ensures { result ≡ note_facts.note_facts (asked.asked_value report.now.asked.now) report.now.recording.now (full_report.report_value report.now) }
+    ensures { result ≡ note_facts.note_facts (asked.asked_value report.now.asked.now) (recording_spec.facts_value report.now.facts) (full_report.report_value report.now) }
 {
-    let recording = report.recording;
+    let facts = report.facts;
     let rows = &report.explained.rows;
     let counts = &report.explained.counts;
     let scope = scope_of(report);
     let totals = totals_of(rows, scope);
-    let reasons = known(recording.reasons());
+    let reasons = known(facts.reasons);
     NoteFacts {
-        back: back_in(recording.times()),
+        back: back_in(facts.times),
         late: count_late_alone(&report.talk, scope.from, rows),
         late_before: count_lacking_before(&report.talk, scope.from, rows),
         tails: totals.tail_pairs,
@@ -119,6 +113,6 @@ pub fn notes_on(report: &FullReport<'_>) -> NoteFacts
         other: reasons.other,
         fragments: counts.fragments,
         unsettled: counts.unsettled,
-        refused: counts.refused.saturating_sub(short_in(recording)),
+        refused: counts.refused.saturating_sub(facts.short),
     }
 }

@@ -1,18 +1,20 @@
-ghost use Rattle.std.specs.Prelude.{◌≡◌, ◌<◌, ◌≤◌, ◌∷◌, ◌++◌, ◌-◌, [], IfOk, OnOk, drop, length, map, slice_index_or, take};
+ghost use Rattle.std.specs.Prelude.{ℕ, List, ◌≡◌, ◌<◌, ◌≤◌, ◌∷◌, ◌++◌, ◌-◌, [], IfOk, OnOk, drop, length, map, slice_index_or, take};
 ghost use Rattle.std.specs.List.{cons_option, list_all, list_any};
 ghost use Rattle.std.specs.Option.{option_map};
-ghost use Rattle.rtps_report.specs.FullReport as full_report;
+ghost use Rattle.rtps_audit.specs.Index as index_spec;
 ghost use Rattle.rtps_discovery.specs.Endpoint as endpoint_spec;
 ghost use Rattle.rtps_discovery.specs.declared.endpoint.Endpoint.{Endpoint as EndpointOf};
+ghost use Rattle.rtps_fragments.specs.RecordedSamples as recorded_samples;
+ghost use Rattle.rtps_fragments.specs.declared.fragments.Fragments.TheVariants.{Read};
 ghost use Rattle.rtps_report.specs.Asked as asked_spec;
 ghost use Rattle.rtps_report.specs.OneSides as one_sides;
 ghost use Rattle.rtps_report.specs.Rows as rows;
 ghost use Rattle.rtps_report.specs.Talk as talk_spec;
 
 use crate::asked::Asked;
-use crate::full_report::FullReport;
 use crate::rows::{fits_one, has_node};
 use crate::talk::Talk;
+use rtps_audit::Index;
 use rtps_discovery::{Endpoint, Side};
 use rtps_ids::Memory;
 use std::alloc::Global;
@@ -173,13 +175,18 @@ fn one_sides_among<'a>(
     Ok(found)
 }
 
-/// The topics of a report that have writers alone, or readers alone, of those that are asked for, octet by octet.
-pub fn one_sides_of<'a>(alloc: Global, report: &FullReport<'a>) -> Result<Vec<OneSided<'a>>, Memory>
-    requires { full_report.IsIndexed report.now }
-    ensures { IfOk result (λ found. one_sides.AreOneSidesIn (asked_spec.asked_value report.now.asked.now) report.now.recording.now.datagrams (talk_spec.talk_value report.now.talk) (map one_sides.one_sided_value found.items)) }
+/// The topics of a recording of this index that have writers alone, or readers alone, of those that are asked for, octet by octet.
+pub(crate) fn one_sides_of<'a>(
+    alloc: Global,
+    asked: &Asked<'_>,
+    index: &Index<'a>,
+    talk: &Talk<'_>,
+) -> Result<Vec<OneSided<'a>>, Memory>
+    ensures { (recording : List (List ℕ)) → index_spec.IsIndexBy (recorded_samples.intake_as Read recording) index.now
+        → IfOk result (λ found. one_sides.AreOneSidesIn (asked_spec.asked_value asked.now) recording (talk_spec.talk_value talk.now) (map one_sides.one_sided_value found.items)) }
 {
-    let endpoints = report.index.directory().endpoints()?;
+    let endpoints = index.directory().endpoints()?;
     let sorted = endpoints_by_topic(alloc, &endpoints)?;
-    let found = one_sides_among(alloc, &report.talk, report.asked, &sorted)?;
+    let found = one_sides_among(alloc, talk, asked, &sorted)?;
     Ok(found)
 }

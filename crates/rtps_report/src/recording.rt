@@ -54,6 +54,19 @@ pub(crate) fn known(reasons: Option<Reasons>) -> Reasons
     }
 }
 
+/// What is told of a recording beside what its datagrams say.
+#[derive(Clone, Copy)]
+pub struct RecordingFacts<'a> {
+    /// When its datagrams came; there are no times of a text.
+    pub times: &'a Times,
+    /// How many frames of a capture gave no datagram; None where it was no capture.
+    pub ignored: Option<u64>,
+    /// For which reasons they gave none; None where not any capture was read.
+    pub reasons: Option<Reasons>,
+    /// How many of its datagrams have one octet or none.
+    pub short: u64,
+}
+
 /// Datagrams in the order in which they were sent, and of a capture when each came and how many of its frames were ignored.
 #[derive(Drop)]
 pub struct Recording {
@@ -150,11 +163,24 @@ impl Recording {
         self.ignored
     }
 
-    /// For which reasons they gave none; None where not any capture was read.
-    pub fn reasons(&self) -> Option<Reasons>
-        ensures { result ≡ self.now.reasons }
+    /// How many of its datagrams have one octet or none.
+    fn short(&self) -> u64
+        ensures { result ≡ recording_spec.short_in self.now.datagrams }
     {
-        self.reasons
+        let datagrams = self.datagrams();
+        datagrams.filter(|octets| octets.len() <= 1).count() as u64
+    }
+
+    /// What is told of it beside what its datagrams say.
+    pub fn facts(&self) -> RecordingFacts<'_>
+        ensures { recording_spec.facts_value result ≡ recording_spec.facts_in self.now }
+    {
+        RecordingFacts {
+            times: &self.times,
+            ignored: self.ignored,
+            reasons: self.reasons,
+            short: self.short(),
+        }
     }
 }
 

@@ -10,7 +10,7 @@ ghost use Rattle.rtps_report.specs.RowFacts as row_facts;
 use crate::asked::Asked;
 use crate::findings::{Facts, TalkFacts};
 use crate::order::Order;
-use crate::recording::Recording;
+use crate::recording::Reasons;
 use crate::silences::Silences;
 use rtps_audit::Verdict;
 use rtps_evidence::{Announcement, Evidence, Explained, Explanation, Outcomes, Way};
@@ -209,21 +209,22 @@ fn are_met(asked: &Asked<'_>, rows: &[Explanation<'_>]) -> bool
     true
 }
 
-/// What is known of a report, of who does not talk, and that two recordings were given in this order.
+/// What is known of a report on a recording of which frames gave no datagram for these reasons, of who does not talk, and that two recordings
+/// were given in this order.
 pub(crate) fn facts_of(
     asked: &Asked<'_>,
     explained: &Explained<'_>,
-    recording: &Recording,
+    reasons: Option<Reasons>,
     told: (TalkFacts, Order),
 ) -> Facts
-    ensures { result ≡ full_report.facts_with told.0 told.1 (asked_spec.asked_value asked.now) (map explanation.explanation_value explained.now.rows.items) explained.now.counts recording.now }
+    ensures { result ≡ full_report.facts_with told.0 told.1 (asked_spec.asked_value asked.now) (map explanation.explanation_value explained.now.rows.items) explained.now.counts reasons }
 {
     let (talk, order) = told;
     Facts {
         rows: explained.rows.len() as u64,
         met: are_met(asked, &explained.rows),
         counts: explained.counts,
-        reasons: recording.reasons(),
+        reasons,
         talk,
         order,
     }

@@ -1,11 +1,12 @@
 ghost use Rattle.std.specs.Prelude.{◌≡◌, map};
 ghost use Rattle.rtps_evidence.specs.Explanation as explanation;
 ghost use Rattle.rtps_report.specs.FullReport as full_report;
+ghost use Rattle.rtps_report.specs.Recording as recording_spec;
 ghost use Rattle.rtps_report.specs.SideFacts as side_facts_spec;
 
 use crate::full_report::FullReport;
 use crate::order::Order;
-use crate::recording::{Links, Recording, known};
+use crate::recording::{Links, RecordingFacts, known};
 use crate::row_facts::{absent_of, way_of};
 use rtps_evidence::Explanation;
 
@@ -64,10 +65,10 @@ fn numbers_absent(rows: &[Explanation<'_>]) -> u128
 }
 
 /// What is told of these rows, and of the recording against which they are held, where the two were given in this order.
-fn facts_beside(rows: &[Explanation<'_>], order: Order, other: &Recording) -> SideFacts
-    ensures { result ≡ side_facts_spec.facts_beside (map explanation.explanation_value rows.now) order other.now }
+fn facts_beside(rows: &[Explanation<'_>], order: Order, other: &RecordingFacts<'_>) -> SideFacts
+    ensures { result ≡ side_facts_spec.facts_beside (map explanation.explanation_value rows.now) order (recording_spec.facts_value other.now) }
 {
-    let reasons = known(other.reasons());
+    let reasons = known(other.reasons);
     SideFacts {
         alone: rows_alone(rows),
         absent_pairs: rows_absent(rows),
@@ -83,7 +84,7 @@ fn facts_beside(rows: &[Explanation<'_>], order: Order, other: &Recording) -> Si
 pub fn facts_of_side(report: &FullReport<'_>) -> Option<SideFacts>
     ensures { result ≡ side_facts_spec.side_facts (full_report.report_value report.now) }
 {
-    match report.arrived {
+    match &report.arrived {
         Some(other) => Some(facts_beside(&report.explained.rows, report.order, other)),
         None => None,
     }

@@ -13,6 +13,7 @@ use Rattle.rtps_evidence.specs.Explanation as explanation
 use Rattle.rtps_report.specs.declared.audited.AskedAudit.{AskedAudit}
 use Rattle.rtps_report.specs.declared.findings.Ending.{Ending}
 use Rattle.rtps_report.specs.Recording as recording
+use Rattle.rtps_report.specs.Recording.{facts_in}
 use Rattle.rtps_report.specs.Reported as reported
 use Rattle.rtps_lines.specs.Lines as lines
 use Rattle.rtps_parts.specs.Names as names
@@ -69,5 +70,5 @@ IsAudited recording text ending = IsAuditedFrom 1 recording text ending
 pub record IsJsonTextAs (asked : AskedAudit) (recording : recording.RecordingValue) (text : List ℕ) (ending : Ending) : Type 0 where
   pub explained : Explained
   pub explains : reported.IsAuditExplained asked recording.datagrams explained
-  pub is_text : json_text.IsJsonLine (json_text.report_json (map explanation.explanation_value explained.rows.items) explained.counts recording) text
+  pub is_text : json_text.IsJsonLine (json_text.report_json (map explanation.explanation_value explained.rows.items) explained.counts (facts_in recording)) text
   pub ends : ending ≡ ending_of (map explanation.row_of explained.rows.items)

@@ -20,6 +20,7 @@ use Rattle.rtps_report.specs.Advice as advice
 use Rattle.rtps_report.specs.Asked as asked
 use Rattle.rtps_report.specs.FullReport as full_report
 use Rattle.rtps_report.specs.Recording as recording
+use Rattle.rtps_report.specs.Recording.{facts_in}
 use Rattle.rtps_report.specs.NoteFacts as note_facts
 use Rattle.rtps_report.specs.Reported as reported
 use Rattle.rtps_report.specs.RowFacts as row_facts
@@ -174,20 +175,20 @@ row_text told row =
     ++ ends_lines told row)))
 
 -- by what the rows of this report are told
-abbrev pub report_told : asked.AskedValue → recording.RecordingValue → full_report.ReportValue → RowTold
-report_told asked recording report =
-    record { scope = note_facts.scope_of asked recording report; talk = report.talk; lost = full_report.lost_of report; times = recording.times }
+abbrev pub report_told : asked.AskedValue → recording.RecordingFactsValue → full_report.ReportValue → RowTold
+report_told asked facts report =
+    record { scope = note_facts.scope_of asked facts report; talk = report.talk; lost = full_report.lost_of report; times = facts.times }
 
 -- the lines of a report
-abbrev pub why_text : asked.AskedValue → recording.RecordingValue → full_report.ReportValue → List ℕ
-why_text asked recording report =
+abbrev pub why_text : asked.AskedValue → recording.RecordingFactsValue → full_report.ReportValue → List ℕ
+why_text asked facts report =
     report_text.pairs_line (length (full_report.rows_of report))
-    ++ (flat_map (row_text (report_told asked recording report)) (full_report.rows_of report)
-    ++ (report_text.report_counts_line report.explained.counts recording.ignored ++ report_ends.report_last asked recording report))
+    ++ (flat_map (row_text (report_told asked facts report)) (full_report.rows_of report)
+    ++ (report_text.report_counts_line report.explained.counts facts.ignored ++ report_ends.report_last asked facts report))
 
 -- they are the lines of this report
 abbrev pub IsWhyText : asked.AskedValue → recording.RecordingValue → full_report.ReportValue → List ℕ → Type 0
-IsWhyText asked recording report text = text ≡ why_text asked recording report
+IsWhyText asked recording report text = text ≡ why_text asked (facts_in recording) report
 
 -- what `why` answers of what is asked of a recording, beside another one, if there is one: these lines, and the ending of the report
 abbrev pub IsWhyAs : asked.AskedValue → Option recording.RecordingValue → recording.RecordingValue → List ℕ → Ending → Type 0

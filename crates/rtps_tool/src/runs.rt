@@ -7,6 +7,7 @@ ghost use Rattle.rtps_text.specs.SampleText as sample_text_spec;
 ghost use Rattle.rtps_text.specs.ShowText as show_text_spec;
 ghost use Rattle.rtps_report.specs.FullReport as full_report;
 ghost use Rattle.rtps_report.specs.ReaderSide as reader_side;
+ghost use Rattle.rtps_report.specs.Recording as recording_spec;
 ghost use Rattle.rtps_tool.specs.Commands as commands;
 ghost use Rattle.rtps_tool.specs.Limits as limits_spec;
 ghost use Rattle.rtps_tool.specs.Runs as runs;
@@ -224,8 +225,8 @@ fn told<P: Watch + Follow>(
 
 /// A report in a form.
 fn form_text(alloc: Global, told_as: ToldAs<'_>, report: &FullReport<'_>) -> Result<String, Memory>
-    requires { full_report.IsIndexed report.now }
-    ensures { IfOk result (λ text. commands.IsFormOf told_as.entry.form told_as.entry.name.now (asked.asked_value report.now.asked.now) report.now.recording.now (full_report.report_value report.now) (string_bytes text)) }
+    ensures { (recording : recording_spec.RecordingValue) → full_report.IsMadeOf recording report.now
+        → IfOk result (λ text. commands.IsFormOf told_as.entry.form told_as.entry.name.now (asked.asked_value report.now.asked.now) recording (full_report.report_value report.now) (string_bytes text)) }
 {
     let text = match told_as.form {
         Form::Check => check_text(alloc, report)?,
@@ -238,8 +239,8 @@ fn form_text(alloc: Global, told_as: ToldAs<'_>, report: &FullReport<'_>) -> Res
 
 /// A report as a page, which says the name of its recording, and shows the text of `check` where scripts do not run.
 fn page_of(alloc: Global, name: &str, report: &FullReport<'_>) -> Result<String, Memory>
-    requires { full_report.IsIndexed report.now }
-    ensures { IfOk result (λ text. commands.IsPageForm name.now (asked.asked_value report.now.asked.now) report.now.recording.now (full_report.report_value report.now) (string_bytes text)) }
+    ensures { (recording : recording_spec.RecordingValue) → full_report.IsMadeOf recording report.now
+        → IfOk result (λ text. commands.IsPageForm name.now (asked.asked_value report.now.asked.now) recording (full_report.report_value report.now) (string_bytes text)) }
 {
     let plain = check_text(alloc, report)?;
     let origin = Origin {

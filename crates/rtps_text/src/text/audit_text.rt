@@ -3,6 +3,7 @@ ghost use Rattle.std.specs.List.{list_all};
 ghost use Rattle.rtps_evidence.specs.Explanation as explanation;
 ghost use Rattle.rtps_json.specs.JsonText as json_text;
 ghost use Rattle.rtps_text.specs.ReportText as report_text;
+ghost use Rattle.rtps_report.specs.Recording as recording_spec;
 ghost use Rattle.rtps_report.specs.Reported as reported;
 ghost use Rattle.rtps_report.specs.declared.findings.Ending.TheVariants.{Clean, Unclean};
 
@@ -65,10 +66,10 @@ fn json_of(
     explained: &Explained<'_>,
     recording: &Recording,
 ) -> Result<String, AllocError>
-    ensures { IfOk result (λ text. json_text.IsJsonLine (json_text.report_json (map explanation.explanation_value explained.now.rows.items) explained.now.counts recording.now) (string_bytes text)) }
+    ensures { IfOk result (λ text. json_text.IsJsonLine (json_text.report_json (map explanation.explanation_value explained.now.rows.items) explained.now.counts (recording_spec.facts_in recording.now)) (string_bytes text)) }
 {
     let mut writer = Writer::new(Vec::new(alloc));
-    push_report(alloc, &mut writer, explained, recording)?;
+    push_report(alloc, &mut writer, explained, recording.facts())?;
     json_line(writer)
 }
 

@@ -3,6 +3,7 @@ ghost use Rattle.rtps_evidence.specs.Explanation as explanation;
 ghost use Rattle.rtps_evidence.specs.Grounds as grounds;
 ghost use Rattle.rtps_report.specs.Asked as asked;
 ghost use Rattle.rtps_report.specs.FullReport as full_report;
+ghost use Rattle.rtps_report.specs.Recording as recording_spec;
 ghost use Rattle.rtps_report.specs.Reported as reported;
 ghost use Rattle.rtps_report.specs.Talk as talk_spec;
 ghost use Rattle.rtps_text.specs.WhyText as why_text;
@@ -31,9 +32,11 @@ struct RowTelling<'r, 'a> {
     lost: LostRows<'r>,
 }
 
-/// What `why` prints of a report: each row, what its verdict rests on and what to do, and how the run ends.
+/// What `why` prints of a report, which is of any recording that it is made of: each row, what its verdict rests on and what to do, and how
+/// the run ends.
 pub fn why_text(alloc: Global, report: &FullReport<'_>) -> Result<String, AllocError>
-    ensures { IfOk result (λ text. why_text.IsWhyText (asked.asked_value report.now.asked.now) report.now.recording.now (full_report.report_value report.now) (string_bytes text)) }
+    ensures { (recording : recording_spec.RecordingValue) → full_report.IsMadeOf recording report.now
+        → IfOk result (λ text. why_text.IsWhyText (asked.asked_value report.now.asked.now) recording (full_report.report_value report.now) (string_bytes text)) }
 {
     let explained = &report.explained;
     let telling = RowTelling {
@@ -41,13 +44,13 @@ pub fn why_text(alloc: Global, report: &FullReport<'_>) -> Result<String, AllocE
         talk: &report.talk,
         lost: LostRows {
             rows: &explained.lost,
-            times: report.recording.times(),
+            times: report.facts.times,
         },
     };
     let mut text = String::new(alloc);
     writeln!(text, "pairs {}", explained.rows.len())?;
     push_rows(alloc, &mut text, &explained.rows, telling)?;
-    let counts = ReportCountsLine(explained.counts, report.recording.ignored());
+    let counts = ReportCountsLine(explained.counts, report.facts.ignored);
     write!(text, "{counts}")?;
     push_report_last(alloc, &mut text, report)?;
     Ok(text)

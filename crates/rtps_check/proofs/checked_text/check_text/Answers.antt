@@ -10,6 +10,7 @@ use Rattle.rtps_report.specs.ByTopic as by_topic
 use Rattle.rtps_report.specs.Events as events
 use Rattle.rtps_report.specs.FullReport as full_report
 use Rattle.rtps_report.specs.NoteFacts as note_facts
+use Rattle.rtps_report.specs.Recording as recording_spec
 use Rattle.rtps_report.specs.SideFacts as side_facts
 use Rattle.rtps_policies.specs.Unmatched as unmatched
 use Rattle.rtps_policies.specs.declared.unmatched.Unmatched.{Unmatched}
@@ -23,10 +24,11 @@ use Rattle.rtps_check.specs.TalkText as talk_text
 use Rattle.rtps_check.proofs.checked_text.check_text.Goals as goal
 
 pub returns : goal.returns
-returns c =
+returns c = λ recording made.
     let report = c.args.report.now in
     let asked = asked.asked_value report.asked.now in
-    let recording = report.recording.now in
+    let facts_told = recording_spec.facts_value report.facts in
+    let value = full_report.report_value report in
     let rows = c.in_ok-rows.rows.items in
     let talking = map (λ (one : Bor Unmatched). unmatched.unmatched_value one.now) c.in_ok-talking.talking.items in
     let left_out = map talk_spec.left_out_value c.in_ok-left_out.left_out.items in
@@ -45,12 +47,12 @@ returns c =
       certain = asked.certain;
       ending = report.ending;
     }) (map explanation.explanation_value all) text in
-    let scope = note_facts.scope_of asked recording (full_report.report_value report) in
+    let scope = note_facts.scope_of asked facts_told value in
     let lost = map kinds.lost_value report.explained.lost.items in
-    let times = recording.times in
-    let facts = note_facts.note_facts asked recording (full_report.report_value report) in
-    let side = side_facts.side_facts (full_report.report_value report) in
-    let happened = events.events_of asked (full_report.report_value report) in
+    let times = facts_told.times in
+    let facts = note_facts.note_facts asked facts_told value in
+    let side = side_facts.side_facts value in
+    let happened = events.events_of asked value in
     let kept = map kinds.lost_value c.deref-4.result.now in
     let own = c.deref-5.result.now in
     let remedy = string_bytes c.in_ok-remedy.remedy in
@@ -66,15 +68,15 @@ returns c =
       left_out = left_out;
       left_out_by_topic = subst (λ (all : List LeftOut). talk_text.AreLeftByTopic (map talk_spec.left_out_value all) left_out) c.deref-3.ensures.value c.in_ok-left_out.ensures;
       remedy = remedy;
-      is_remedy = c.in_ok-remedy.ensures;
-      is_text = subst (λ left. IsText scope lost remedy happened times facts side rows (notes.talking_names talking) left) c.deref-9.ensures.value
+      is_remedy = c.in_ok-remedy.ensures recording made;
+      is_text = subst (λ known. check_text.IsTextBy (note_facts.scope_of asked known value) (check_text.beside_of asked known value remedy (notes.talking_names talking) left_out) (map explanation.explanation_value rows) text) made.facts
+          (subst (λ left. IsText scope lost remedy happened times facts side rows (notes.talking_names talking) left) c.deref-9.ensures.value
           (subst (λ talk. IsText scope lost remedy happened times facts side rows talk these) (c.deref-8.ensures ∙ c.in_ok-names.ensures)
           (subst (λ all. IsText scope lost remedy all times facts side rows those these) (ap (map events.event_value) c.deref-7.ensures.value ∙ c.in_ok-events.ensures)
           (subst (λ what. IsText scope lost what known times facts side rows those these) c.deref-6.ensures
           (subst (λ all. IsText scope lost told known times facts side all those these) c.deref-5.ensures.value
           (subst (λ beside. IsText scope lost told known times facts beside own those these) c.facts_of_side.ensures
           (subst (λ weak. IsText scope lost told known times weak c.facts_of_side.result own those these) c.notes_on.ensures
-          (subst (λ all. IsText scope lost told known all c.notes_on.result c.facts_of_side.result own those these) c.times.ensures
-          (subst (λ (some : List LostNumbers). IsText scope (map kinds.lost_value some) told known c.times.result.now c.notes_on.result c.facts_of_side.result own those these) c.deref-4.ensures.value
-          (subst (λ first. IsText first kept told known c.times.result.now c.notes_on.result c.facts_of_side.result own those these) c.scope_of.ensures c.in_ok-text.ensures)))))))));
+          (subst (λ (some : List LostNumbers). IsText scope (map kinds.lost_value some) told known times c.notes_on.result c.facts_of_side.result own those these) c.deref-4.ensures.value
+          (subst (λ first. IsText first kept told known times c.notes_on.result c.facts_of_side.result own those these) c.scope_of.ensures c.in_ok-text.ensures)))))))));
     }

@@ -17,6 +17,7 @@ use Rattle.rtps_report.specs.Laws as laws
 use Rattle.rtps_report.specs.NoPair as no_pair
 use Rattle.rtps_report.specs.NoteFacts as note_facts
 use Rattle.rtps_report.specs.Recording as recording
+use Rattle.rtps_report.specs.Recording.{facts_in}
 use Rattle.rtps_report.specs.SideFacts as side_facts
 use Rattle.rtps_report.specs.Talk as talk
 use Rattle.rtps_report.specs.Totals as totals
@@ -81,7 +82,7 @@ CheckFacts = Scope × check_text.Beside × List explanation.ExplanationValue
 remedy_once : no_pair.HasOneNoPair → (asked : asked.AskedValue) (recording : recording.RecordingValue) (rows others : List Explanation) (one other : full_report.ReportValue) (text last : List ℕ) → one.talk ≡ other.talk
     → map explanation.explanation_value rows ≡ map explanation.explanation_value others → check_text.IsRemedyBy rows asked recording one text → check_text.IsRemedyBy others asked recording other last → text ≡ last
 remedy_once unique asked recording [] [] one other text last talk same is also =
-    let told = unique asked recording one other is.cause also.cause is.one_sides also.one_sides talk is.is_cause also.is_cause in
+    let told = unique asked recording one.talk other.talk is.cause also.cause is.one_sides also.one_sides talk is.is_cause also.is_cause in
     is.is_text ∙ (λ i. no_pair_text.no_pair_text (talk i) (told.0 i) (told.1 i)) ∙ sym also.is_text
 remedy_once unique asked recording [] (row ∷ others) one other text last talk same is also = absurd (let clash : 0 ≡ suc (length (map explanation.explanation_value others)) = ap length same in cc)
 remedy_once unique asked recording (row ∷ rows) [] one other text last talk same is also = absurd (let clash : suc (length (map explanation.explanation_value rows)) ≡ 0 = ap length same in cc)
@@ -95,18 +96,19 @@ text_once unique asked recording one other text last same is also =
     let talking : is.talking ≡ also.talking = unmatched_once one.talk.talking other.talk.talking is.talking also.talking same.talk.talking is.talking_by_topic also.talking_by_topic in
     let left_out : is.left_out ≡ also.left_out = left_once one.talk.left_out other.talk.left_out is.left_out also.left_out same.talk.left_out is.left_out_by_topic also.left_out_by_topic in
     let talk = same_talk one.talk other.talk same.talk in
-    let scope_by : Counts → Scope = λ counts. record { from = asked.from; tail = asked.tail; unread = note_facts.is_unread counts recording.reasons } in
-    let scope : note_facts.scope_of asked recording one ≡ note_facts.scope_of asked recording other = ap scope_by same.counts in
-    let facts : note_facts.note_facts asked recording one ≡ note_facts.note_facts asked recording other =
-    λ i. note_facts.facts_by (talk i) (same.rows i) (scope_by (same.counts i)) (same.counts i) recording in
+    let known = facts_in recording in
+    let scope_by : Counts → Scope = λ counts. record { from = asked.from; tail = asked.tail; unread = note_facts.is_unread counts known.reasons } in
+    let scope : note_facts.scope_of asked known one ≡ note_facts.scope_of asked known other = ap scope_by same.counts in
+    let facts : note_facts.note_facts asked known one ≡ note_facts.note_facts asked known other =
+    λ i. note_facts.facts_by (talk i) (same.rows i) (scope_by (same.counts i)) (same.counts i) known in
     let side : side_facts.side_facts one ≡ side_facts.side_facts other = λ i. side_facts.facts_if (same.rows i) (same.order i) (same.arrived i) in
     let remedy : is.remedy ≡ also.remedy = remedy_once unique asked recording one.explained.rows.items other.explained.rows.items one other is.remedy also.remedy talk same.rows is.is_remedy also.is_remedy in
-    let beside : check_text.beside_of asked recording one is.remedy (notes.talking_names is.talking) is.left_out ≡ check_text.beside_of asked recording other also.remedy (notes.talking_names also.talking) also.left_out =
-    λ i. record (check_text.beside_of asked recording one is.remedy (notes.talking_names is.talking) is.left_out) { lost = same.lost i; remedy = remedy i; events = events.events_by asked (talk i) (same.lost i) (same.rows i); facts = facts i; side = side i; talking = notes.talking_names (talking i); left_out = left_out i; talk = talk i; ending = same.ending i } in
-    let told : CheckFacts = (note_facts.scope_of asked recording one, check_text.beside_of asked recording one is.remedy (notes.talking_names is.talking) is.left_out, map explanation.explanation_value is.rows) in
-    let told' : CheckFacts = (note_facts.scope_of asked recording other, check_text.beside_of asked recording other also.remedy (notes.talking_names also.talking) also.left_out, map explanation.explanation_value also.rows) in
+    let beside : check_text.beside_of asked known one is.remedy (notes.talking_names is.talking) is.left_out ≡ check_text.beside_of asked known other also.remedy (notes.talking_names also.talking) also.left_out =
+    λ i. record (check_text.beside_of asked known one is.remedy (notes.talking_names is.talking) is.left_out) { lost = same.lost i; remedy = remedy i; events = events.events_by asked (talk i) (same.lost i) (same.rows i); facts = facts i; side = side i; talking = notes.talking_names (talking i); left_out = left_out i; talk = talk i; ending = same.ending i } in
+    let told : CheckFacts = (note_facts.scope_of asked known one, check_text.beside_of asked known one is.remedy (notes.talking_names is.talking) is.left_out, map explanation.explanation_value is.rows) in
+    let told' : CheckFacts = (note_facts.scope_of asked known other, check_text.beside_of asked known other also.remedy (notes.talking_names also.talking) also.left_out, map explanation.explanation_value also.rows) in
     let path : told ≡ told' = λ i. (scope i, beside i, rows i) in
-    text_by_once (note_facts.scope_of asked recording other) (check_text.beside_of asked recording other also.remedy (notes.talking_names also.talking) also.left_out) (map explanation.explanation_value also.rows) text last
+    text_by_once (note_facts.scope_of asked known other) (check_text.beside_of asked known other also.remedy (notes.talking_names also.talking) also.left_out) (map explanation.explanation_value also.rows) text last
     (subst (λ (by : CheckFacts). check_text.IsTextBy by.0 by.1 by.2 text) path is.is_text) also.is_text
 
 pub returns : goal.returns

@@ -376,8 +376,8 @@ by_found certain totals findings met false is all some found = (
 )
 
 clean_without_reasons : check_text.TellsWhyUnclean
-clean_without_reasons talk order asked unread rows counts recording =
-    let findings = findings_spec.findings_of asked (full_report.facts_with talk order asked rows counts recording) in
+clean_without_reasons talk order asked unread rows counts reasons =
+    let findings = findings_spec.findings_of asked (full_report.facts_with talk order asked rows counts reasons) in
     let totals = totals.totals_of (record { from = asked.from; tail = asked.tail; unread = unread }) rows in
     by_found asked.certain totals findings (list_all (λ (row : explanation.ExplanationValue). is_met_by asked.from asked.tail asked.certain row.evidence) rows) (findings_spec.are_none findings) refl
     (met_without_reasons asked.certain asked.tail asked.from unread rows) (not_met_has_a_reason asked.certain asked.tail asked.from unread rows)

@@ -6,6 +6,7 @@ use Rattle.rtps_evidence.specs.Explanation as explanation
 use Rattle.rtps_report.specs.FullReport as full_report
 use Rattle.rtps_report.specs.LateRows as late_rows
 use Rattle.rtps_report.specs.NoteFacts as note_facts
+use Rattle.rtps_report.specs.Recording as recording
 use Rattle.rtps_report.specs.Talk as talk
 use Rattle.rtps_evidence.specs.declared.explanation.Explanation.{Explanation}
 use Rattle.rtps_report.specs.declared.note_facts.NoteFacts.{NoteFacts}
@@ -18,7 +19,7 @@ pub returns : goal.returns
 returns c =
     let report = c.args.report.now in
     let value = full_report.report_value report in
-    let facts = note_facts.note_facts (asked.asked_value report.asked.now) report.recording.now value in
+    let facts = note_facts.note_facts (asked.asked_value report.asked.now) (recording.facts_value report.facts) value in
     let late = late_rows.late_rows value.talk (full_report.rows_of value) in
     let told : NoteFacts → List LeftOut → List late_rows.LateRowValue → Option SideFacts → List (List ℕ) = λ known left matched side.
     notes.notes (codes " -> ") known

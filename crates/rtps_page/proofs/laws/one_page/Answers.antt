@@ -3,6 +3,7 @@ use Rattle.rtps_discovery.specs.Directory as directory_spec
 use Rattle.rtps_evidence.specs.Explanation as explanation
 use Rattle.rtps_report.specs.Asked as asked
 use Rattle.rtps_report.specs.Recording as recording
+use Rattle.rtps_report.specs.Recording.{facts_in}
 use Rattle.rtps_report.specs.FullReport as full_report
 use Rattle.rtps_report.specs.Laws as laws
 use Rattle.rtps_json.specs.CheckMembers as check_members
@@ -17,8 +18,8 @@ same_json : (origin : origin.OriginValue) (asked : asked.AskedValue) (recording 
     → page_spec.page_json origin asked recording one directory ≡ page_spec.page_json origin asked recording other map
 same_json origin asked recording one other directory map same maps =
     ap₂ (λ (members : List json_text.Member) (rows : List explanation.ExplanationValue). json_text.object_of (members ++ page_spec.own_members origin asked recording rows directory (chart_room.charted_pairs asked.tail (page_spec.acts_sent recording) rows)))
-    (same_members asked recording one other same) same.rows
-    ∙ ap (λ (d : directory_spec.DirectoryValue). json_text.object_of (check_members.check_members asked recording other ++ page_spec.own_members origin asked recording (full_report.rows_of other) d (page_spec.pairs_with_charts asked recording other))) maps
+    (same_members asked (facts_in recording) one other same) same.rows
+    ∙ ap (λ (d : directory_spec.DirectoryValue). json_text.object_of (check_members.check_members asked (facts_in recording) other ++ page_spec.own_members origin asked recording (full_report.rows_of other) d (page_spec.pairs_with_charts asked recording other))) maps
 
 pub returns : goal.returns
 returns c = λ origin asked theirs recording one other plain page last is also by too.

@@ -9,15 +9,14 @@ use Rattle.rtps_report.specs.Talk as talk
 use Rattle.rtps_report.proofs.one_side.one_sides_of.Goals as goal
 
 pub returns : goal.returns
-returns c =
-    let report = c.args.report.now in
+returns c = λ recording is_index.
     let sorted = c.in_ok-sorted.sorted.items in
     record {
       directory = c.directory.result.now;
-      is_map = c.directory.ensures (recorded_samples.intake_as Fragments.Read report.recording.now.datagrams) c.requires;
+      is_map = c.directory.ensures (recorded_samples.intake_as Fragments.Read recording) is_index;
       endpoints = c.in_ok-endpoints.endpoints.items;
       are_endpoints = c.in_ok-endpoints.ensures;
       sorted = sorted;
       by_topic = subst (λ (all : List Endpoint). one_sides.AreByTopic all sorted) c.deref.ensures.value c.in_ok-sorted.ensures;
-      are = c.in_ok-found.ensures ∙ ap (λ (those : List Endpoint). one_sides.one_sides_among (asked.asked_value report.asked.now) (talk.talk_value report.talk).node (map endpoint.endpoint_value those)) c.deref-2.ensures.value;
+      are = c.in_ok-found.ensures ∙ ap (λ (those : List Endpoint). one_sides.one_sides_among (asked.asked_value c.args.asked.now) (talk.talk_value c.args.talk.now).node (map endpoint.endpoint_value those)) c.deref-2.ensures.value;
     }

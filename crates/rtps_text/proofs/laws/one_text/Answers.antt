@@ -13,6 +13,7 @@ use Rattle.rtps_discovery.specs.Notice as notice
 use Rattle.rtps_report.specs.BestEfforts as best_efforts
 use Rattle.rtps_report.specs.Asked as asked
 use Rattle.rtps_report.specs.Recording as recording
+use Rattle.rtps_report.specs.Recording.{facts_in}
 use Rattle.rtps_report.specs.FullReport as full_report
 use Rattle.rtps_report.specs.Laws as laws
 use Rattle.rtps_report.specs.NoteFacts as note_facts
@@ -56,21 +57,21 @@ rows_in (row ∷ rows) = ap (λ rest. explanation.row_of row ∷ rest) (rows_in 
 pub returns-clause-json : goal.returns-clause-json
 returns-clause-json c = λ asked recording one other ending last is also.
     let same = c.one_explanation.ensures false asked.from other_side.alone (recorded_samples.intake_as asked.fragments recording.datagrams) is.explained also.explained is.explains also.explains in (
-      is.is_text.is_text ∙ ap₂ (λ (rows : List explanation.ExplanationValue) (counts : Counts). json_text.json_line (json_text.report_json rows counts recording)) same.0 same.1 ∙ sym also.is_text.is_text,
+      is.is_text.is_text ∙ ap₂ (λ (rows : List explanation.ExplanationValue) (counts : Counts). json_text.json_line (json_text.report_json rows counts (facts_in recording))) same.0 same.1 ∙ sym also.is_text.is_text,
       is.ends ∙ ap report_text.ending_of (rows_in is.explained.rows.items ∙ ap (map row_in) same.0 ∙ sym (rows_in also.explained.rows.items)) ∙ sym also.ends,
     )
 
 -- the lines of a report by its parts
-abbrev lines_with : asked.AskedValue → recording.RecordingValue → Ending → Counts → List explanation.ExplanationValue → List kinds.LostValue → talk.TalkValue → List ℕ
-lines_with asked recording ending counts rows lost talk =
-    let scope : Scope = record { from = asked.from; tail = asked.tail; unread = note_facts.is_unread counts recording.reasons } in
+abbrev lines_with : asked.AskedValue → recording.RecordingFactsValue → Ending → Counts → List explanation.ExplanationValue → List kinds.LostValue → talk.TalkValue → List ℕ
+lines_with asked facts ending counts rows lost talk =
+    let scope : Scope = record { from = asked.from; tail = asked.tail; unread = note_facts.is_unread counts facts.reasons } in
     report_text.pairs_line (length rows)
-    ++ (flat_map (why_text.row_text (record { scope = scope; talk = talk; lost = lost; times = recording.times })) rows
-    ++ (report_text.report_counts_line counts recording.ignored ++ causes.last_line (totals.totals_of scope rows) (best_efforts.numbers_told talk.best_effort_total) ending (causes.causes_of asked.certain (totals.totals_of scope rows) (causes.findings_in ending))))
+    ++ (flat_map (why_text.row_text (record { scope = scope; talk = talk; lost = lost; times = facts.times })) rows
+    ++ (report_text.report_counts_line counts facts.ignored ++ causes.last_line (totals.totals_of scope rows) (best_efforts.numbers_told talk.best_effort_total) ending (causes.causes_of asked.certain (totals.totals_of scope rows) (causes.findings_in ending))))
 
-same_lines : (asked : asked.AskedValue) (recording : recording.RecordingValue) (one other : full_report.ReportValue) → laws.AreSame one other → why_text.why_text asked recording one ≡ why_text.why_text asked recording other
-same_lines asked recording one other same =
-    let with = lines_with asked recording in
+same_lines : (asked : asked.AskedValue) (facts : recording.RecordingFactsValue) (one other : full_report.ReportValue) → laws.AreSame one other → why_text.why_text asked facts one ≡ why_text.why_text asked facts other
+same_lines asked facts one other same =
+    let with = lines_with asked facts in
     ap (λ (rows : List explanation.ExplanationValue). with one.ending one.explained.counts rows (full_report.lost_of one) one.talk) same.rows
     ∙ ap (λ (lost : List kinds.LostValue). with one.ending one.explained.counts (full_report.rows_of other) lost one.talk) same.lost
     ∙ ap (λ (counts : Counts). with one.ending counts (full_report.rows_of other) (full_report.lost_of other) one.talk) same.counts
@@ -80,4 +81,4 @@ same_lines asked recording one other same =
 pub returns-clause-why : goal.returns-clause-why
 returns-clause-why c = λ asked theirs recording one other ending last is also.
     let same = c.one_full_report.ensures asked theirs recording is.report also.report is.is_report also.is_report in
-    (is.is_text ∙ same_lines asked recording is.report also.report same ∙ sym also.is_text, is.ends ∙ same.ending ∙ sym also.ends)
+    (is.is_text ∙ same_lines asked (facts_in recording) is.report also.report same ∙ sym also.is_text, is.ends ∙ same.ending ∙ sym also.ends)
